@@ -1,0 +1,3 @@
+-- Laws of the walk, which the proofs of this crate and of its callers cite.
+pub mod Laws
+pub mod Found

@@ -1,0 +1,32 @@
+-- Numbers and tags as bytes.
+use Prim.Native.Nat.{ℕ, zero, suc, _+_, _*_, _/_, _%_}
+use mathlib.Core.List.{List, [], _∷_, _++_}
+use lib.ListN.{length}
+use Rattle.tags.specs.Walk.{Tags, ended, more}
+
+-- Source 000, "All header contents are stored in little-endian format": v in n bytes, and the number that bytes are.
+abbrev pub littleEndian : ℕ → ℕ → List ℕ
+littleEndian zero v = []
+littleEndian (suc n) v = v % 256 ∷ littleEndian n (v / 256)
+
+abbrev pub number : List ℕ → ℕ
+number [] = 0
+number (b ∷ l) = b + 256 * number l
+
+-- A tag to write: its type and its value.
+pub record Field : Type 0 where
+  pub type : ℕ
+  pub value : List ℕ
+
+-- Source 000, "Type, Length, Value": the type, the value's length, the value.
+abbrev pub tagBytes : ℕ → List ℕ → List ℕ
+tagBytes t v = littleEndian 2 t ++ (littleEndian 2 (length v) ++ v)
+
+unfoldable pub fieldBytes : List Field → List ℕ
+fieldBytes [] = []
+fieldBytes (f ∷ l) = tagBytes (f .type) (f .value) ++ fieldBytes l
+
+-- The tags that a walk finds in those bytes, laid from p on and ended.
+unfoldable pub tagsOf : ℕ → List Field → Tags
+tagsOf p [] = ended
+tagsOf p (f ∷ l) = more p (f .type) (length (f .value)) (tagsOf (p + 4 + length (f .value)) l)

@@ -1,0 +1,3 @@
+-- The tags of a header, source 000's "TLV": how they are read and how they are written.
+pub mod Walk
+pub mod Bytes
