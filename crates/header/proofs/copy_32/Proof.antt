@@ -1,0 +1,19 @@
+use borrow.Author.Needs.{needs}
+use Rattle.header.proofs.Parts.{copied}
+use Rattle.header.proofs.copy_32.Statement.{statement}
+use Rattle.header.proofs.copy_32.Tie as tie
+
+returns : tie.Need-returns
+returns c = copied (c .before .before .before .before .before .args .h .now) (c .before .before .before .before .before .args .at) 32 (c .before .before .before .before .before .pre) (c .before .copy .ensures .1)
+
+pub copy-32-spec : {M : Type 1} → statement M
+copy-32-spec =
+    tie.close
+    (tie.spec
+    (λ c. search needs)
+    (λ c. search needs)
+    (λ c. search needs)
+    (λ c. search needs)
+    (λ c. search needs)
+    (λ c κs. search needs)
+    returns)

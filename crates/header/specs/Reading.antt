@@ -1,0 +1,116 @@
+-- Document 01, "The header": what the reader makes of bytes.
+use mathlib.Core.Path.{_≡_}
+use Prim.Native.Nat.{ℕ, suc, _+_, _≤_, _<_}
+use mathlib.Core.List.{List, [], _∷_}
+use mathlib.Core.Bool.{true, false, cond, not}
+use lib.ListN.{length, getD, set, take, drop, replicate}
+use lib.Dec.{ltb, eqb}
+use Rattle.refusals.specs.Answer.{Answer, gives, refused, then}
+use Rattle.tags.specs.Walk.{Tags, ended, broken, more, tagsAt}
+use Rattle.tags.specs.Bytes.{number}
+use Rattle.header.specs.Table.{TagTable, documentTable, magic}
+use Rattle.header.specs.declared.HeaderOutcome.{HeaderOutcome}
+use Rattle.header.specs.declared.HeaderOutcome.the-variants.{Accepted, TooShort, WrongMagic, ZeroSize, TagDoesNotFit, WrongLength, Repeated, NoEnd, Missing}
+use Rattle.header.specs.declared.Header.{Header}
+use Rattle.header.specs.declared.HeaderAnswer.{HeaderAnswer}
+
+-- The paper's number and place for each case of the code's outcome, "Numbers given back", rows 2 to 8 and 16.
+-- The place of 4, 5 and 6 is the tag's first byte, that of 7 the header's length; at 8 the missing type stands for the place.
+abbrev pub answerOf : {A : Type 0} → HeaderOutcome → A → Answer A
+answerOf Accepted a = gives a
+answerOf TooShort a = refused 16 0
+answerOf WrongMagic a = refused 2 0
+answerOf ZeroSize a = refused 3 4
+answerOf (TagDoesNotFit p) a = refused 4 p
+answerOf (WrongLength p) a = refused 5 p
+answerOf (Repeated p) a = refused 6 p
+answerOf (NoEnd p) a = refused 7 p
+answerOf (Missing t) a = refused 8 t
+
+-- The first row at which x stands, or the number of rows.
+unfoldable pub rowOf : List ℕ → ℕ → ℕ
+rowOf [] x = 0
+rowOf (y ∷ l) x = elim (eqb y x) [ true ↦ 0 | false ↦ suc (rowOf l x) ]
+
+-- `seen` has the place of each row's tag, 0 where none was seen: no tag stands at 0.
+-- After the end, the smallest required type that was not seen is refusal 8; the types rise, so it is the first.
+abbrev pub complete : TagTable → List ℕ → Answer (List ℕ)
+complete T seen =
+    let r = rowOf (take (T .required) seen) 0 in
+    cond (ltb r (T .required)) (refused 8 (getD (T .types) r 0)) (gives seen)
+
+-- The tags in their order. For a type in the table, a wrong length is refusal 5, then a type seen before 6; other types are skipped.
+unfoldable pub judge : TagTable → List ℕ → Tags → Answer (List ℕ)
+judge T seen ended = complete T seen
+judge T seen (broken n p) = refused n p
+judge T seen (more q t n rest) =
+    let r = rowOf (T .types) t in
+    let skipped = judge T seen rest in
+    let taken = judge T (set seen r q) rest in
+    cond (ltb r (length (T .types)))
+    (cond (eqb n (getD (T .lengths) r 0)) (cond (eqb (getD seen r 0) 0) taken (refused 6 q)) (refused 5 q))
+    skipped
+
+-- The places of a header's tags by a table. Tags run from byte 8.
+unfoldable pub placesIn : TagTable → List ℕ → Answer (List ℕ)
+placesIn T h = judge T (replicate (length (T .types)) 0) (tagsAt h 8)
+
+-- n bytes from p on.
+abbrev pub part : List ℕ → ℕ → ℕ → List ℕ
+part h p n = take n (drop p h)
+
+-- The value of the tag of a row: behind type and length, as long as the table says.
+abbrev pub value : List ℕ → List ℕ → ℕ → List ℕ
+value h places row = part h (getD places row 0 + 4) (getD (documentTable .lengths) row 0)
+
+-- The values of a header whose tags stand at these places. Numbers are little-endian; digest, signature and hint are bytes as they stand.
+-- Without a hint the answer says so, and the hint's bytes are 0.
+abbrev pub valuesAt : List ℕ → List ℕ → Header
+valuesAt h places =
+    let hintless = eqb (getD places 5 0) 0 in
+    record {
+      size = number (part h 4 4);
+      version = number (value h places 0);
+      timestamp = number (value h places 1);
+      digest = value h places 2;
+      signature = value h places 3;
+      «auth_type» = number (value h places 4);
+      «has_hint» = not hintless;
+      hint = cond hintless (replicate 32 0) (value h places 5);
+    }
+
+-- The reader's order: 16, 2, 3 (zero only), then the walk. The header is the first 256 bytes.
+unfoldable pub readHeader : List ℕ → Answer Header
+readHeader s =
+    let h = take 256 s in
+    cond (ltb (length s) 256) (refused 16 0)
+    (cond (not (eqb (number (part h 0 4)) (number magic))) (refused 2 0)
+    (cond (eqb (number (part h 4 4)) 0) (refused 3 4)
+    (then (placesIn documentTable h) (λ places. gives (valuesAt h places)))))
+
+-- The values beside a refusal: blank, so that none comes from an earlier image.
+abbrev pub blank : Header
+blank =
+    record {
+      size = 0;
+      version = 0;
+      timestamp = 0;
+      digest = replicate 32 0;
+      signature = replicate 64 0;
+      «auth_type» = 0;
+      «has_hint» = false;
+      hint = replicate 32 0;
+    }
+
+abbrev pub valuesOf : Answer Header → Header
+valuesOf (gives v) = v
+valuesOf (refused n p) = blank
+
+-- What the reader promises of the bytes s: its outcome and its values, both decided by s alone.
+pub record Reads (s : List ℕ) (r : HeaderAnswer) : Type 0 where
+  pub outcome : answerOf (r .outcome) (r .header) ≡ readHeader s
+  pub values : r .header ≡ valuesOf (readHeader s)
+
+-- A value of each row's length fits, behind type and length, at each row's place of a header of n bytes.
+pub record Within (T : TagTable) (places : List ℕ) (n : ℕ) : Type 0 where
+  pub fits : (r : ℕ) → r < length (T .types) → getD places r 0 + 4 + getD (T .lengths) r 0 ≤ n

@@ -1,0 +1,20 @@
+-- Document 01, "The header": the table of tags, as data.
+use Prim.Native.Nat.{ℕ}
+use mathlib.Core.List.{List, [], _∷_}
+
+-- The types in rising order, the length that each type's value has, and how many of the rows, from the first on, are required.
+pub record TagTable : Type 0 where
+  pub types : List ℕ
+  pub lengths : List ℕ
+  pub required : ℕ
+
+abbrev pub table : List ℕ → List ℕ → ℕ → TagTable
+table t n k = record { types = t; lengths = n; required = k }
+
+-- Version, timestamp, SHA-256 digest, signature, auth type; and the key hint, which is optional.
+abbrev pub documentTable : TagTable
+documentTable = table (0x0001 ∷ 0x0002 ∷ 0x0003 ∷ 0x0020 ∷ 0x0030 ∷ 0x1000 ∷ []) (4 ∷ 8 ∷ 32 ∷ 64 ∷ 2 ∷ 32 ∷ []) 5
+
+-- The bytes 0 to 3 of a header. Source 000 names no value; this one is document 01's.
+abbrev pub magic : List ℕ
+magic = 0x43 ∷ 0x45 ∷ 0x52 ∷ 0x54 ∷ []
