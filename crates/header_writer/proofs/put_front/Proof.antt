@@ -1,0 +1,21 @@
+-- `put_front` meets its contract. Assumes nothing.
+use Rattle.header_writer.proofs.Putting.{puts-then, puts-as}
+use borrow.Author.Needs.{needs}
+use Rattle.header_writer.proofs.put_front.Statement.{statement}
+use Rattle.header_writer.proofs.put_front.Tie as tie
+
+returns : tie.Need-returns
+returns c = puts-then (puts-as (c .before .before .before .before .before .before .before .put .ensures) (c .before .before .before .before .before .before .before .before .before .before .before .u32-bytes .ensures)) (puts-as (c .before .before .put2 .ensures) (c .before .before .before .before .before .before .before .before .before .before .u32-bytes2 .ensures))
+
+pub put-front-spec : {M : Type 1} → statement M
+put-front-spec =
+    tie.close
+    (tie.spec
+    (λ c κs. search needs)
+    (λ c κs. search needs)
+    (λ c. search needs)
+    (λ c κs. search needs)
+    (λ c. search needs)
+    (λ c κs. search needs)
+    (λ c. search needs)
+    returns)
