@@ -4,7 +4,9 @@ use Rattle.header.proofs.copy_32.Statement.{statement}
 use Rattle.header.proofs.copy_32.Tie as tie
 
 returns : tie.Need-returns
-returns c = copied (c .before .before .before .before .before .args .h .now) (c .before .before .before .before .before .args .at) 32 (c .before .before .before .before .before .pre) (c .before .copy .ensures .1)
+returns c =
+    let c5 = c .before .before .before .before .before in
+    copied (c5 .args .h .now) (c5 .args .at) 32 (c5 .pre) (c .before .copy .ensures .1)
 
 pub copy-32-spec : {M : Type 1} → statement M
 copy-32-spec =

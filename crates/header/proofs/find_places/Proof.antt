@@ -26,10 +26,21 @@ loop-holds c =
     (refl, begun (table (s .args .types .now) (s .args .lengths .now) (s .args .required)) (s .args .h .now) 6 (s .pre .0))
 
 returns : tie.Need-returns Inv-loop μ-loop
-returns c = wrong-length (c .before .before .before .before .before .before .before .before .loop .inv .1) (c .before .before .before .before .before .before .before .read-tag .ensures) (c .before .before .before .before .before .t .given .1) (c .before .before .before .row-of .ensures) (c .before .before .if1 .taken) (c .if2 .taken)
+returns c =
+    let c3 = c .before .before .before in
+    let c5 = c3 .before .before in
+    let c7 = c5 .before .before in
+    let c8 = c7 .before in
+    wrong-length (c8 .loop .inv .1) (c7 .read-tag .ensures) (c5 .t .given .1) (c3 .row-of .ensures) (c .before .before .if1 .taken) (c .if2 .taken)
 
 returns-2 : tie.Need-returns-2 Inv-loop μ-loop
-returns-2 c = repeated (c .before .before .before .before .before .before .before .before .before .loop .inv .1) (c .before .before .before .before .before .before .before .before .read-tag .ensures) (c .before .before .before .before .before .before .t .given .1) (c .before .before .before .before .row-of .ensures) (c .before .before .before .if1 .taken) (c .before .if2 .left) (c .if3 .taken)
+returns-2 c =
+    let c3 = c .before .before .before in
+    let c4 = c3 .before in
+    let c6 = c4 .before .before in
+    let c8 = c6 .before .before in
+    let c9 = c8 .before in
+    repeated (c9 .loop .inv .1) (c8 .read-tag .ensures) (c6 .t .given .1) (c4 .row-of .ensures) (c3 .if1 .taken) (c .before .if2 .left) (c .if3 .taken)
 
 add-at : tie.Need-add-at Inv-loop μ-loop
 add-at c =
@@ -51,9 +62,12 @@ loop-less c =
 
 loop-again : tie.Need-loop-again Inv-loop μ-loop
 loop-again c =
-    let inv = c .before .before .before .before .before .before .loop .inv in
-    let told = c .before .before .before .before .before .read-tag .ensures in
-    let is = c .before .before .before .t .given .1 in
+    let c3 = c .before .before .before in
+    let c5 = c3 .before .before in
+    let c6 = c5 .before in
+    let inv = c6 .loop .inv in
+    let told = c5 .read-tag .ensures in
+    let is = c3 .t .given .1 in
     let row = c .before .row-of .ensures in
     ⊎-elim
     (λ w. rw (w .4) (simp length-set (inv .0), taken (inv .1) told is row (w .0 .taken) (w .2 .left) (w .3 .left)))
@@ -66,10 +80,18 @@ slice-aggregate-row-of c =
     sym (length-take-le (s .before .before .before .before .args .required) (s .loop .places) (omega arith))
 
 returns-3 : tie.Need-returns-3 Inv-loop μ-loop
-returns-3 c = lacks (c .before .before .before .before .before .before .before .loop .inv .1) (c .before .before .before .before .before .before .read-tag .ensures) (c .before .before .before .before .enum-told .given .1) (c .before .before .row-of2 .ensures) (c .before .if4 .taken)
+returns-3 c =
+    let c4 = c .before .before .before .before in
+    let c6 = c4 .before .before in
+    let c7 = c6 .before in
+    lacks (c7 .loop .inv .1) (c6 .read-tag .ensures) (c4 .enum-told .given .1) (c .before .before .row-of2 .ensures) (c .before .if4 .taken)
 
 returns-4 : tie.Need-returns-4 Inv-loop μ-loop
-returns-4 c = whole (c .before .before .before .before .before .before .loop .inv .1) (c .before .before .before .before .before .read-tag .ensures) (c .before .before .before .enum-told .given .1) (c .before .row-of2 .ensures) (c .if4 .left)
+returns-4 c =
+    let c3 = c .before .before .before in
+    let c5 = c3 .before .before in
+    let c6 = c5 .before in
+    whole (c6 .loop .inv .1) (c5 .read-tag .ensures) (c3 .enum-told .given .1) (c .before .row-of2 .ensures) (c .if4 .left)
 
 returns-5 : tie.Need-returns-5 Inv-loop μ-loop
 returns-5 c = too-short (c .before .before .before .loop .inv .1) (c .before .before .read-tag .ensures) (c .enum-told2 .given .1)

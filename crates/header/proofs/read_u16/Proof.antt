@@ -4,7 +4,9 @@ use Rattle.header.proofs.read_u16.Statement.{statement}
 use Rattle.header.proofs.read_u16.Tie as tie
 
 returns : tie.Need-returns
-returns c = num-2 (c .before .before .before .before .args .h .now) (c .before .before .before .before .args .at) (c .before .before .before .before .pre) (c .two-bytes .ensures)
+returns c =
+    let c4 = c .before .before .before .before in
+    num-2 (c4 .args .h .now) (c4 .args .at) (c4 .pre) (c .two-bytes .ensures)
 
 pub read-u16-spec : {M : Type 1} → statement M
 read-u16-spec =

@@ -4,7 +4,9 @@ use Rattle.header.proofs.read_u32.Statement.{statement}
 use Rattle.header.proofs.read_u32.Tie as tie
 
 returns : tie.Need-returns
-returns c = num-4 (c .before .before .before .before .before .before .args .h .now) (c .before .before .before .before .before .before .args .at) (c .before .before .before .before .before .before .pre) (c .four-bytes .ensures)
+returns c =
+    let c6 = c .before .before .before .before .before .before in
+    num-4 (c6 .args .h .now) (c6 .args .at) (c6 .pre) (c .four-bytes .ensures)
 
 pub read-u32-spec : {M : Type 1} → statement M
 read-u32-spec =

@@ -43,16 +43,22 @@ read-hint-requires : tie.Need-read-hint-requires
 read-hint-requires c κs = omega (arith, c .before .before .before .before .before .before .before .pre .fits 5 (lit< tt))
 
 returns : tie.Need-returns
-returns c = λ i. record {
-  size = c .before .before .before .before .before .before .read-u32 .ensures i;
-  version = c .before .before .before .before .before .read-u322 .ensures i;
-  timestamp = c .before .before .before .before .read-u64 .ensures i;
-  digest = c .before .before .before .copy-32 .ensures i;
-  signature = c .before .before .copy-64 .ensures i;
-  «auth_type» = c .before .read-u16 .ensures i;
-  «has_hint» = not (eqb (getD (c .before .before .before .before .before .before .before .before .args .t2) 5 0) 0);
-  hint = c .read-hint .ensures i;
-}
+returns c =
+    let c3 = c .before .before .before in
+    let c4 = c3 .before in
+    let c5 = c4 .before in
+    let c6 = c5 .before in
+    let c8 = c6 .before .before in
+    λ i. record {
+      size = c6 .read-u32 .ensures i;
+      version = c5 .read-u322 .ensures i;
+      timestamp = c4 .read-u64 .ensures i;
+      digest = c3 .copy-32 .ensures i;
+      signature = c .before .before .copy-64 .ensures i;
+      «auth_type» = c .before .read-u16 .ensures i;
+      «has_hint» = not (eqb (getD (c8 .args .t2) 5 0) 0);
+      hint = c .read-hint .ensures i;
+    }
 
 pub read-values-spec : {M : Type 1} → statement M
 read-values-spec =

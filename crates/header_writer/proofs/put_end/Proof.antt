@@ -16,7 +16,10 @@ put-requires-2 : tie.Need-put-requires-2
 put-requires-2 c κs = omega (arith, length-take-le {A = ℕ} (256 - c .before .before .before .before .put .result) (replicate 256 255) (omega arith))
 
 returns : tie.Need-returns
-returns c = puts-end (c .before .before .before .before .before .before .before .before .before .before .before .pre .0) (c .before .before .before .before .before .before .before .put .ensures) (c .before .before .put2 .ensures)
+returns c =
+    let c7 = c .before .before .before .before .before .before .before in
+    let c11 = c7 .before .before .before .before in
+    puts-end (c11 .pre .0) (c7 .put .ensures) (c .before .before .put2 .ensures)
 
 pub put-end-spec : {M : Type 1} → statement M
 put-end-spec =

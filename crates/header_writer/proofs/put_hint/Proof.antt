@@ -15,7 +15,10 @@ put-tag-requires : tie.Need-put-tag-requires
 put-tag-requires c κs = omega (arith, hint-32 (c .before .before .before .before .before))
 
 returns : tie.Need-returns
-returns c = puts-hint (c .before .before .before .before .before .before .before .before .args .v .hint) (c .before .before .before .before .before .before .if1 .taken) (c .before .before .put-tag .ensures)
+returns c =
+    let c6 = c .before .before .before .before .before .before in
+    let c8 = c6 .before .before in
+    puts-hint (c8 .args .v .hint) (c6 .if1 .taken) (c .before .before .put-tag .ensures)
 
 returns-2 : tie.Need-returns-2
 returns-2 c = puts-no-hint (c .before .before .args .v .hint) (c .if1 .left)

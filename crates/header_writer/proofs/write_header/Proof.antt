@@ -24,13 +24,29 @@ returns-2 : tie.Need-returns-2
 returns-2 c = zero-size (c .before .before .before .args .v) (c .before .before .before .args .out .now) (c .before .if1 .left) (c .if2 .taken)
 
 put-hint-requires : tie.Need-put-hint-requires
-put-hint-requires c κs = let s = c .before .before .before .before .before .before .before .before .before .before .before .before in omega (arith, length-required (s .args .v) (digest-32 s) (signature-64 s), c .before .before .before .before .before .before .before .put-front .ensures .behind, c .before .before .before .put-required .ensures .behind)
+put-hint-requires c κs =
+    let c3 = c .before .before .before in
+    let c7 = c3 .before .before .before .before in
+    let c12 = c7 .before .before .before .before .before in
+    let s = c12 in omega (arith, length-required (s .args .v) (digest-32 s) (signature-64 s), c7 .put-front .ensures .behind, c3 .put-required .ensures .behind)
 
 put-end-requires : tie.Need-put-end-requires
-put-end-requires c κs = let s = c .before .before .before .before .before .before .before .before .before .before .before .before .before .before .before .before in omega (arith, length-required (s .args .v) (digest-32 s) (signature-64 s), length-hint (s .args .v .«has_hint») (s .args .v .hint) (hint-32 s), c .before .before .before .before .before .before .before .before .before .before .before .put-front .ensures .behind, c .before .before .before .before .before .before .before .put-required .ensures .behind, c .before .before .before .put-hint .ensures .behind)
+put-end-requires c κs =
+    let c3 = c .before .before .before in
+    let c7 = c3 .before .before .before .before in
+    let c11 = c7 .before .before .before .before in
+    let c16 = c11 .before .before .before .before .before in
+    let s = c16 in omega (arith, length-required (s .args .v) (digest-32 s) (signature-64 s), length-hint (s .args .v .«has_hint») (s .args .v .hint) (hint-32 s), c11 .put-front .ensures .behind, c7 .put-required .ensures .behind, c3 .put-hint .ensures .behind)
 
 returns-3 : tie.Need-returns-3
-returns-3 c = let s = c .before .before .before .before .before .before .before .before .before .before .before .before .before .before .before .before .before .before .before in written (s .args .v) (s .args .out .now) (c .before .before .before .before .before .before .before .before .before .before .before .before .before .before .before .before .before .if1 .left) (c .before .before .before .before .before .before .before .before .before .before .before .before .before .before .before .before .if2 .left) (puts-header (s .args .v) (c .before .before .before .before .before .before .before .before .before .before .before .before .before .before .before .before .before .if1 .left) (length-required (s .args .v) (digest-32 s) (signature-64 s)) (length-hint (s .args .v .«has_hint») (s .args .v .hint) (hint-32 s)) (c .before .before .before .before .before .before .before .before .before .before .before .before .before .before .put-front .ensures) (c .before .before .before .before .before .before .before .before .before .before .put-required .ensures) (c .before .before .before .before .before .before .put-hint .ensures) (c .before .before .put-end .ensures))
+returns-3 c =
+    let c6 = c .before .before .before .before .before .before in
+    let c10 = c6 .before .before .before .before in
+    let c14 = c10 .before .before .before .before in
+    let c16 = c14 .before .before in
+    let c17 = c16 .before in
+    let c19 = c17 .before .before in
+    let s = c19 in written (s .args .v) (s .args .out .now) (c17 .if1 .left) (c16 .if2 .left) (puts-header (s .args .v) (c17 .if1 .left) (length-required (s .args .v) (digest-32 s) (signature-64 s)) (length-hint (s .args .v .«has_hint») (s .args .v .hint) (hint-32 s)) (c14 .put-front .ensures) (c10 .put-required .ensures) (c6 .put-hint .ensures) (c .before .before .put-end .ensures))
 
 pub write-header-spec : {M : Type 1} → statement M
 write-header-spec =

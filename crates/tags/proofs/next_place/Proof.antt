@@ -13,10 +13,16 @@ went : {t u : Tag} {s : Answer Item} (at : ℕ) → t ≡ u → itemOf t ≡ s �
 went at e g = ap (λ x. placeAfter (itemOf x) at) (sym e) ∙ ap (λ x. placeAfter x at) g
 
 add-result : tie.Need-add-result
-add-result c = let a = c .before .before .before .before .before .args in omega (arith, walk-within (a .s .now) (a .at) (sym (c .before .before .before .walk-at .ensures) ∙ ap itemOf (c .before .t .given .1)))
+add-result c =
+    let c3 = c .before .before .before in
+    let c5 = c3 .before .before in
+    let a = c5 .args in omega (arith, walk-within (a .s .now) (a .at) (sym (c3 .walk-at .ensures) ∙ ap itemOf (c .before .t .given .1)))
 
 add-result-2 : tie.Need-add-result-2
-add-result-2 c = let a = c .before .before .before .before .before .args in omega (arith, walk-within (a .s .now) (a .at) (sym (c .before .before .before .walk-at .ensures) ∙ ap itemOf (c .before .t .given .1)))
+add-result-2 c =
+    let c3 = c .before .before .before in
+    let c5 = c3 .before .before in
+    let a = c5 .args in omega (arith, walk-within (a .s .now) (a .at) (sym (c3 .walk-at .ensures) ∙ ap itemOf (c .before .t .given .1)))
 
 returns : tie.Need-returns
 returns c = went _ (c .before .t .given .1) (c .before .before .before .walk-at .ensures)
