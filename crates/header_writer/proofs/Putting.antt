@@ -106,23 +106,35 @@ unfolding fieldBytes
 length-hint true h h32 = simp length-append (omega arith)
 length-hint false h h32 = omega arith
 
+-- the written header is as long as a header
+pub length-header : (v : Header) → length (fieldBytes (requiredFields v)) ≡ 130 → length (fieldBytes (hintFields (v .«has_hint») (v .hint))) ≤ 36
+    → length (headerBytes v) ≡ 256
+unfolding headerBytes
+length-header v required optional =
+    let a : List ℕ = fieldBytes (requiredFields v) in
+    let b : List ℕ = fieldBytes (hintFields (v .«has_hint») (v .hint)) in
+    let t : List ℕ = fieldBytes (requiredFields v ++ hintFields (v .«has_hint») (v .hint)) in
+    let split : length t ≡ length a + length b =
+    ap length (field-append (requiredFields v) (hintFields (v .«has_hint») (v .hint))) ∙ length-append a b in
+    omega (arith, length-append t (ending (8 + length t)), length-replicate {A = ℕ} (254 - (8 + length t)) 255)
+
 -- the whole header, from a buffer's start
 pub puts-header : {d d₁ d₂ d₃ d₄ : List ℕ} {p₁ p₂ p₃ p₄ : ℕ} (v : Header) → 256 ≤ length d → length (fieldBytes (requiredFields v)) ≡ 130
-    → length (fieldBytes (hintFields (v .«has_hint») (v .hint))) ≤ 36 → Puts d d₁ 0 (front v) p₁ → Puts d₁ d₂ p₁ (fieldBytes (requiredFields v)) p₂
-    → Puts d₂ d₃ p₂ (fieldBytes (hintFields (v .«has_hint») (v .hint))) p₃ → Puts d₃ d₄ p₃ (ending p₃) p₄
-    → d₄ ≡ headerBytes v ++ drop 256 d
+    → length (fieldBytes (hintFields (v .«has_hint») (v .hint))) ≤ 36 → Puts d d₁ 0 (front v) p₁
+    → Puts d₁ d₂ p₁ (fieldBytes (requiredFields v)) p₂ → Puts d₂ d₃ p₂ (fieldBytes (hintFields (v .«has_hint») (v .hint))) p₃
+    → Puts d₃ d₄ p₃ (ending p₃) p₄ → d₄ ≡ headerBytes v ++ drop 256 d
 unfolding headerBytes
-puts-header {d} {p₃ = p₃} v room required optional x₁ x₂ x₃ x₄ =
+puts-header {d} {d₄ = d₄} {p₃ = p₃} {p₄ = p₄} v room required optional x₁ x₂ x₃ x₄ =
     let a : List ℕ = fieldBytes (requiredFields v) in
     let b : List ℕ = fieldBytes (hintFields (v .«has_hint») (v .hint)) in
     let t : List ℕ = fieldBytes (requiredFields v ++ hintFields (v .«has_hint») (v .hint)) in
     let split : t ≡ a ++ b = field-append (requiredFields v) (hintFields (v .«has_hint») (v .hint)) in
     let place : p₃ ≡ 8 + length t = rw split (omega (arith, x₁ .behind, x₂ .behind, x₃ .behind, length-append a b)) in
-    let whole : Puts d _ 0 (front v ++ (t ++ ending (8 + length t))) _ =
-    puts-as (puts-then x₁ (puts-then (puts-then x₂ x₃) x₄)) (ap (λ (l : List ℕ). front v ++ (l ++ ending p₃)) (sym split) ∙ ap (λ (k : ℕ). front v ++ (t ++ ending k)) place) in
-    let l : 0 + length (front v ++ (t ++ ending (8 + length t))) ≡ 256 =
-    omega (arith, ap length split, length-append a b, length-append t (ending (8 + length t)), length-replicate {A = ℕ} (254 - (8 + length t)) 255) in
-    whole .is ∙ sets-eq (front v ++ (t ++ ending (8 + length t))) d 0 (omega arith) ∙ ap (λ (k : ℕ). front v ++ (t ++ ending (8 + length t)) ++ drop k d) l
+    let whole : Puts d d₄ 0 (headerBytes v) p₄ =
+    puts-as (puts-then x₁ (puts-then (puts-then x₂ x₃) x₄))
+    (ap (λ (l : List ℕ). front v ++ (l ++ ending p₃)) (sym split) ∙ ap (λ (k : ℕ). front v ++ (t ++ ending k)) place) in
+    let l : 0 + length (headerBytes v) ≡ 256 = omega (arith, length-header v required optional) in
+    whole .is ∙ sets-eq (headerBytes v) d 0 (omega arith) ∙ ap (λ (k : ℕ). headerBytes v ++ drop k d) l
 
 -- what the writer answers, by the tests on the way
 module _ (v : Header) (out : List ℕ) where
