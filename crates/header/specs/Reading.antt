@@ -6,7 +6,7 @@ use mathlib.Core.Bool.{true, false, cond, not}
 use lib.ListN.{length, getD, set, take, drop, replicate}
 use lib.Dec.{ltb, eqb}
 use Rattle.refusals.specs.Answer.{Answer, gives, refused, then}
-use Rattle.tags.specs.Walk.{Tags, ended, broken, more, tagsAt}
+use Rattle.tags.specs.Walk.{firstTag, Tags, ended, broken, more, tagsAt}
 use Rattle.tags.specs.Bytes.{number}
 use Rattle.header.specs.Table.{TagTable, documentTable, magic}
 use Rattle.header.specs.declared.HeaderOutcome.{HeaderOutcome}
@@ -51,9 +51,9 @@ judge T seen (more q t n rest) =
     (cond (eqb n (getD (T .lengths) r 0)) (cond (eqb (getD seen r 0) 0) taken (refused 6 q)) (refused 5 q))
     skipped
 
--- The places of a header's tags by a table. Tags run from byte 8.
+-- The places of a header's tags by a table.
 unfoldable pub placesIn : TagTable → List ℕ → Answer (List ℕ)
-placesIn T h = judge T (replicate (length (T .types)) 0) (tagsAt h 8)
+placesIn T h = judge T (replicate (length (T .types)) 0) (tagsAt h firstTag)
 
 -- n bytes from p on.
 abbrev pub part : List ℕ → ℕ → ℕ → List ℕ

@@ -28,9 +28,6 @@ impl Header {
     // 43 45 52 54, low byte first.
     pub const MAGIC: u32 = 0x54524543;
 
-    // Where the tags begin.
-    pub const FIRST_TAG: usize = 8;
-
     // The types of the tags.
     pub const VERSION: usize = 0x0001;
 
@@ -107,7 +104,7 @@ fn find_places(h: &[u8], types: &[usize], lengths: &[usize], required: usize) ->
     ensures { λ r. ⌜ answerOf (r .outcome) (r .places) ≡ placesIn (table (now (types .entry)) (now (lengths .entry)) required) (now (h .entry)) ⌝ }
 {
     let mut places = [0usize; ROWS];
-    let mut at = Header::FIRST_TAG;
+    let mut at = tags::FIRST_TAG;
     loop {
         let t = tags::read_tag(h, at);
         match t {

@@ -5,7 +5,7 @@ use mathlib.Core.List.{List, [], _∷_, _++_}
 use mathlib.Core.Bool.{Bool, true, false}
 use lib.ListN.{replicate}
 use Rattle.refusals.specs.Answer.{gives, refused}
-use Rattle.tags.specs.Walk.{end, itemAt, Tags, ended, more, tagsAt}
+use Rattle.tags.specs.Walk.{firstTag, end, itemAt, Tags, ended, more, tagsAt}
 use Rattle.tags.specs.Bytes.{littleEndian}
 use Rattle.header.specs.declared.Header.{Header}
 use Rattle.header.specs.Table.{magic}
@@ -22,7 +22,7 @@ pub data HeaderCase : Type 0 where
 abbrev pub Holds : HeaderCase → Type 0
 Holds (written hint tags place) =
     (v : Header) → Holdable v → v .«has_hint» ≡ hint
-    → (tagsAt (headerBytes v) 8 ≡ tags) × (itemAt (headerBytes v) place ≡ gives end)
+    → (tagsAt (headerBytes v) firstTag ≡ tags) × (itemAt (headerBytes v) place ≡ gives end)
 Holds (refusing bytes number place) =
     (size : ℕ) → 0 < size → size < 2 ^ 32 → readHeader (magic ++ (littleEndian 4 size ++ bytes)) ≡ refused number place
 

@@ -4,7 +4,7 @@ use mathlib.Core.List.{List, [], _∷_, _++_}
 use lib.ListN.{length}
 use Rattle.tags.specs.Walk.{Tags, ended, more}
 
--- Source 000, "All header contents are stored in little-endian format": v in n bytes, and the number that bytes are.
+-- Source 000 stores the numbers of a header with the low byte first: v in n bytes, and the number that bytes are.
 abbrev pub littleEndian : ℕ → ℕ → List ℕ
 littleEndian zero v = []
 littleEndian (suc n) v = v % 256 ∷ littleEndian n (v / 256)
@@ -18,7 +18,7 @@ pub record Field : Type 0 where
   pub type : ℕ
   pub value : List ℕ
 
--- Source 000, "Type, Length, Value": the type, the value's length, the value.
+-- A tag as source 000 lays it out: the type in two bytes, the length of the value in two bytes, the value.
 abbrev pub tagBytes : ℕ → List ℕ → List ℕ
 tagBytes t v = littleEndian 2 t ++ (littleEndian 2 (length v) ++ v)
 

@@ -8,6 +8,10 @@ use Rattle.refusals.specs.Answer.{Answer, gives, refused}
 use Rattle.tags.specs.declared.Tag.{Tag}
 use Rattle.tags.specs.declared.Tag.the-variants.{Found, End, TooShort, DoesNotFit, NoEnd}
 
+-- Where the tags begin: behind the magic and the firmware's size, four bytes each.
+abbrev pub firstTag : ℕ
+firstTag = 8
+
 -- The type of the tag at p and the length of its value: two bytes each, low byte first (000).
 abbrev pub typeAt : List ℕ → ℕ → ℕ
 typeAt h p = getD h p 0 + 256 * getD h (p + 1) 0

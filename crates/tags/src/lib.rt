@@ -7,6 +7,9 @@ ghost use Rattle.tags.specs.Walk.{itemAt, nextItem, itemOf, walkAt, plac
 // The length of a header in bytes.
 pub const HEADER_LENGTH: usize = 256;
 
+// Where the tags begin: behind the magic and the size.
+pub const FIRST_TAG: usize = 8;
+
 // A byte that stands for nothing, before a tag.
 const PADDING: u8 = 0xFF;
 
