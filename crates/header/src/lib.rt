@@ -40,6 +40,22 @@ impl Header {
     pub const AUTH_TYPE: usize = 0x0030;
 
     pub const HINT: usize = 0x1000;
+
+    // The values beside a refusal.
+    pub fn blank() -> Header
+        ensures { λ r. ⌜ r ≡ blank ⌝ }
+    {
+        Header {
+            size: 0,
+            version: 0,
+            timestamp: 0,
+            digest: [0u8; 32],
+            signature: [0u8; 64],
+            auth_type: 0,
+            has_hint: false,
+            hint: [0u8; 32],
+        }
+    }
 }
 
 // How many rows the table of tags has, and how many of them, from the first on, are required.
@@ -262,16 +278,7 @@ fn refuse(o: HeaderOutcome) -> HeaderAnswer
 {
     HeaderAnswer {
         outcome: o,
-        header: Header {
-            size: 0,
-            version: 0,
-            timestamp: 0,
-            digest: [0u8; 32],
-            signature: [0u8; 64],
-            auth_type: 0,
-            has_hint: false,
-            hint: [0u8; 32],
-        },
+        header: Header::blank(),
     }
 }
 
