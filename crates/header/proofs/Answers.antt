@@ -3,9 +3,12 @@ use mathlib.Core.Path.{_≡_, refl, sym, ap, _∙_}
 use Prim.Native.Nat.{ℕ, _≤_, _<_}
 use mathlib.Core.List.{List}
 use lib.ListN.{length, take}
+use native.Mathlib.Omega.{arith}
+use native.Mathlib.Decide.{decLt}
 use borrow.Author.Tests.{lt-ltb, le-ltb, eq-eqb, ne-eqb}
 use Rattle.refusals.specs.Answer.{Answer, gives, refused, then}
 use Rattle.tags.specs.Bytes.{number}
+use Rattle.tags.proofs.Laws.{refused-gives}
 use Rattle.header.specs.declared.HeaderOutcome.{HeaderOutcome}
 use Rattle.header.specs.declared.HeaderOutcome.the-variants.{Accepted, TooShort, WrongMagic, ZeroSize, TagDoesNotFit, WrongLength, Repeated, NoEnd, Missing}
 use Rattle.header.specs.declared.Header.{Header}
@@ -52,31 +55,36 @@ taken-in {s} {v} o l out is val by =
     by ∙ ap (λ (a : Answer (List ℕ)). then a f) (sym out ∙ ap (λ (x : HeaderOutcome). answerOf x l) is) ∙ ap gives (sym val) in
     record { outcome = sym e; values = sym (ap valuesOf e) }
 
+-- an outcome that is not `Accepted` is a refusal, whatever stands beside it
+pub record Refusing (o : HeaderOutcome) : Type 1 where
+  pub number : ℕ
+  pub place : ℕ
+  pub is : {A : Type 0} (a : A) → answerOf o a ≡ refused number place
+
+pub refusing : (o : HeaderOutcome) → (o ≡ Accepted → ⊥) → Refusing o
+refusing Accepted x = absurd (x refl)
+refusing TooShort x = record { number = 16; place = 0; is = λ a. refl }
+refusing WrongMagic x = record { number = 2; place = 0; is = λ a. refl }
+refusing ZeroSize x = record { number = 3; place = 4; is = λ a. refl }
+refusing (TagDoesNotFit p) x = record { number = 4; place = p; is = λ a. refl }
+refusing (WrongLength p) x = record { number = 5; place = p; is = λ a. refl }
+refusing (Repeated p) x = record { number = 6; place = p; is = λ a. refl }
+refusing (NoEnd p) x = record { number = 7; place = p; is = λ a. refl }
+refusing (Missing t) x = record { number = 8; place = t; is = λ a. refl }
+
 -- the tags are refused
 pub turned-on : {s : List ℕ} {o : HeaderOutcome} {r : HeaderAnswer} (l : List ℕ) → answerOf o l ≡ placesIn documentTable (take 256 s)
     → (o ≡ Accepted → ⊥) → (r .outcome ≡ o) × (r .header ≡ blank)
     → readHeader s ≡ then (placesIn documentTable (take 256 s)) (λ l. gives (valuesAt (take 256 s) l)) → Reads s r
 turned-on {s} {o} {r} l out not w by =
     let f : List ℕ → Answer Header = λ x. gives (valuesAt (take 256 s) x) in
-    let p = passes-on o not in
-    let is : readHeader s ≡ then (answerOf o l) f = by ∙ ap (λ (a : Answer (List ℕ)). then a f) (sym out) in
-    record {
-      outcome = ap (λ (z : HeaderOutcome). answerOf z (r .header)) (w .0) ∙ p .0 ∙ sym is;
-      values = w .1 ∙ sym (p .1) ∙ sym (ap valuesOf is);
-    }
-  where
-    f : List ℕ → Answer Header
-    f x = gives (valuesAt (take 256 s) x)
+    let h = refusing o not in
+    turned w (h .is (r .header)) (by ∙ ap (λ (a : Answer (List ℕ)). then a f) (sym out ∙ h .is l))
 
-    passes-on : (e : HeaderOutcome) → (e ≡ Accepted → ⊥)
-        → (answerOf e (r .header) ≡ then (answerOf e l) (λ x. gives (valuesAt (take 256 s) x)))
-        × (valuesOf (then (answerOf e l) (λ x. gives (valuesAt (take 256 s) x))) ≡ blank)
-    passes-on Accepted x = absurd (x refl)
-    passes-on TooShort x = (refl, refl)
-    passes-on WrongMagic x = (refl, refl)
-    passes-on ZeroSize x = (refl, refl)
-    passes-on (TagDoesNotFit p) x = (refl, refl)
-    passes-on (WrongLength p) x = (refl, refl)
-    passes-on (Repeated p) x = (refl, refl)
-    passes-on (NoEnd p) x = (refl, refl)
-    passes-on (Missing k) x = (refl, refl)
+-- a header that is accepted has its bytes
+pub accepted-room : (s : List ℕ) (v : Header) → readHeader s ≡ gives v → 256 ≤ length s
+accepted-room s v e = go (decLt (length s) 256)
+  where
+    go : Dec (length s < 256) → 256 ≤ length s
+    go (yes lt) = refused-gives (sym (short s lt) ∙ e)
+    go (no ge) = omega arith
