@@ -1,0 +1,201 @@
+// SHA-256: the digest of a message that lies in one place, or comes in parts. Numbers as 5.3.3 are sections of FIPS 180-4.
+ghost use mathlib.Core.Path.{_≡_};
+ghost use Prim.Native.Nat.{_+_, _-_, _*_, _/_, _%_, _≤_, _<_};
+ghost use mathlib.Core.List.{[], _∷_, _++_};
+ghost use lib.ListN.{length, take, replicate};
+ghost use lib.Seq.{paste};
+ghost use Rattle.sha256.specs.Fips as fips;
+ghost use Rattle.sha256.specs.Parts as parts;
+
+mod block;
+
+// 5.3.3: the initial hash value.
+const H0: [u32; 8] = [
+    0x6a09e667,
+    0xbb67ae85,
+    0x3c6ef372,
+    0xa54ff53a,
+    0x510e527f,
+    0x9b05688c,
+    0x1f83d9ab,
+    0x5be0cd19,
+];
+
+// 6.2.2: the hash value after the whole blocks of m, from h on.
+fn hash(h: [u32; 8], m: &[u8]) -> [u32; 8]
+    ensures { λ r. ⌜ r ≡ fips.hash h (now (m .entry)) (length (now (m .entry)) / 64) ⌝ }
+{
+    let n = m.len() / 64;
+    let mut s = h;
+    let mut i: usize = 0;
+    while i < n {
+        let at = 64 * i;
+        let end = at + 64;
+        let x = block::compress(s, &m[at..end]);
+        s = x;
+        i += 1;
+    }
+    s
+}
+
+// The bytes of part over those of t, from at on.
+fn put(t: [u8; 64], at: usize, part: &[u8]) -> [u8; 64]
+    requires { ⌜ at + length (now part) ≤ 64 ⌝ }
+    ensures { λ r. ⌜ r ≡ paste t at (now (part .entry)) (length (now (part .entry))) ⌝ }
+{
+    let mut r = t;
+    let mut i: usize = 0;
+    while i < part.len() {
+        r[at + i] = part[i];
+        i += 1;
+    }
+    r
+}
+
+// The first fill bytes of old, those of part, and zeros.
+fn join(old: [u8; 64], fill: usize, part: &[u8]) -> [u8; 64]
+    requires { ⌜ fill + length (now part) ≤ 64 ⌝ }
+    ensures { λ r. ⌜ r ≡ (take fill (old ++ replicate 64 0) ++ now (part .entry)) ++ replicate (64 - (fill + length (now (part .entry)))) 0 ⌝ }
+{
+    put(put([0u8; 64], 0, &old[..fill]), fill, part)
+}
+
+// The smaller of a and b.
+fn least(a: usize, b: usize) -> usize
+    ensures { λ r. ⌜ (r ≤ a) × (r ≤ b) × ((r < b) → r ≡ a) ⌝ }
+{
+    if a < b {
+        return a;
+    }
+    b
+}
+
+// 5.1.1: the eight bytes of a length in bits.
+fn length_field(bits: u64) -> [u8; 8]
+    ensures { λ r. ⌜ r ≡ fips.bigEndian 8 bits ⌝ }
+{
+    let mut r = [0u8; 8];
+    let mut i: usize = 0;
+    while i < 8 {
+        r[i] = ((bits >> (56 - 8 * i)) % 256) as u8;
+        i += 1;
+    }
+    r
+}
+
+// 6.2.2: the bytes of the digest.
+fn bytes(h: [u32; 8]) -> [u8; 32]
+    ensures { λ r. ⌜ r ≡ fips.bytes h ⌝ }
+{
+    let mut r = [0u8; 32];
+    let mut i: usize = 0;
+    while i < 32 {
+        r[i] = ((h[i / 4] >> (24 - 8 * (i % 4))) % 256) as u8;
+        i += 1;
+    }
+    r
+}
+
+// 5.1.1: a block of the byte 0x80 and zeros.
+fn mark() -> [u8; 64]
+    ensures { λ r. ⌜ r ≡ 0x80 ∷ replicate 63 0 ⌝ }
+{
+    let mut t = [0u8; 64];
+    t[0] = 0x80;
+    t
+}
+
+// What has been absorbed of a message: the hash value after its whole blocks, the bytes after them, and how many bytes in all.
+pub struct Hasher {
+    words: [u32; 8],
+    pending: [u8; 64],
+    count: u64,
+}
+
+impl Hasher {
+    // The state that has absorbed nothing.
+    pub fn new() -> Hasher
+        ensures { λ r. ⌜ r ≡ parts.stateOf [] ⌝ }
+    {
+        Hasher {
+            words: H0,
+            pending: [0u8; 64],
+            count: 0,
+        }
+    }
+
+    // For a part that fits the pending block.
+    fn top_up(self, part: &[u8]) -> Hasher
+        requires { ⌜ self .count % 64 + length (now part) ≤ 64 ⌝ }
+        ensures { λ r. ⌜ r ≡ parts.absorbOf self (now (part .entry)) ⌝ }
+    {
+        let h = self.words;
+        let old = self.pending;
+        let count = std::num::wrapping_add_u64(self.count, part.len() as u64);
+        let fill = (self.count % 64) as usize;
+        let p = join(old, fill, part);
+        if fill + part.len() < 64 {
+            return Hasher {
+                words: h,
+                pending: p,
+                count,
+            };
+        }
+        Hasher {
+            words: block::compress(h, &p),
+            pending: [0u8; 64],
+            count,
+        }
+    }
+
+    // For a state with no pending byte: the part's whole blocks are compressed where they lie.
+    fn absorb_blocks(self, part: &[u8]) -> Hasher
+        requires { ⌜ self .count % 64 ≡ 0 ⌝ }
+        ensures { λ r. ⌜ r ≡ parts.absorbOf self (now (part .entry)) ⌝ }
+    {
+        let h = self.words;
+        let from = part.len() - part.len() % 64;
+        Hasher {
+            words: hash(h, part),
+            pending: put([0u8; 64], 0, &part[from..]),
+            count: std::num::wrapping_add_u64(self.count, part.len() as u64),
+        }
+    }
+
+    // The state that has absorbed the part too.
+    pub fn absorb(self, part: &[u8]) -> Hasher
+        ensures { λ r. ⌜ r ≡ parts.absorbOf self (now (part .entry)) ⌝ }
+    {
+        let fill = (self.count % 64) as usize;
+        let k = least((64 - fill) % 64, part.len());
+        let d = self.top_up(&part[..k]);
+        if k == part.len() {
+            return d;
+        }
+        d.absorb_blocks(&part[k..])
+    }
+
+    // The digest of what has been absorbed. The padding of 5.1.1 is absorbed as two parts: the byte 0x80 with the zeros, and the
+    // length in bits.
+    pub fn finish(self) -> [u8; 32]
+        ensures { λ r. ⌜ r ≡ parts.finishOf self ⌝ }
+    {
+        let count = self.count;
+        let zeros = ((119 - count % 64) % 64) as usize;
+        let n = zeros + 1;
+        let t = mark();
+        let length = length_field(count << 3);
+        let d = self.absorb(&t[..n]).absorb(&length);
+        let words = d.words;
+        bytes(words)
+    }
+}
+
+// The digest of a message that lies in one place.
+pub fn digest(bytes: &[u8]) -> [u8; 32]
+    ensures { λ r. ⌜ r ≡ fips.sha256 (now (bytes .entry)) ⌝ }
+{
+    let empty = Hasher::new();
+    let whole = empty.absorb(bytes);
+    whole.finish()
+}

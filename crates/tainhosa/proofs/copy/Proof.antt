@@ -1,0 +1,48 @@
+use borrow.Author.Needs.{needs}
+use mathlib.Core.Path.{_≡_, refl, sym, ap, _∙_}
+use mathlib.Core.List.{[], _∷_, _++_}
+use native.Mathlib.Omega.{arith}
+use native.Mathlib.Numerals.{add-one}
+use Prim.Native.Nat.{_≤_, _-_, _+_}
+use lib.ListN.{length, take, getD, length-set}
+use lib.Seq.{take-suc, take-suc-set, take-all}
+use Rattle.tainhosa.proofs.copy.Statement.{statement}
+use Rattle.tainhosa.proofs.copy.Tie as tie
+
+abbrev Inv-loop : tie.InvT-loop
+Inv-loop to₀ from i₀ to i = (i ≤ length from) × (length to ≡ length from) × (take i to ≡ take i from)
+
+abbrev μ-loop : tie.MeasureT-loop
+μ-loop to₀ from i₀ to i = length from - i
+
+loop-holds : tie.Need-loop-holds Inv-loop μ-loop
+loop-holds c = (omega arith, c .pre, refl)
+
+loop-again : tie.Need-loop-again Inv-loop μ-loop
+loop-again c =
+    let l = c .before .before .loop in
+    let f = c .before .before .before .args .from .now in (
+      omega arith,
+      simp length-set (l .inv .1),
+      rw add-one (take-suc-set (l .to) (l .i) (getD f (l .i) 0) (omega arith) ∙ ap (λ x. x ++ getD f (l .i) 0 ∷ []) (l .inv .2) ∙ sym (take-suc f (l .i) 0 (omega arith))),
+    )
+
+returns : tie.Need-returns Inv-loop μ-loop
+returns c =
+    let l = c .before .loop in
+    sym (take-all (l .i) _ (omega arith)) ∙ l .inv .2 ∙ take-all (l .i) _ (omega arith)
+
+pub copy-spec : {M : Type 1} → statement M
+copy-spec =
+    tie.close
+    (tie.spec
+    Inv-loop
+    μ-loop
+    loop-holds
+    (λ c. search needs)
+    (λ c. search needs)
+    (λ c. search needs)
+    (λ c. search needs)
+    loop-again
+    (λ c. search needs)
+    returns)

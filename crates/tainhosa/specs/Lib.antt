@@ -1,0 +1,2 @@
+-- What a C caller gets.
+pub mod Digest
