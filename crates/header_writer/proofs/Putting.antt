@@ -1,56 +1,19 @@
--- Bytes written one behind another. Assumes nothing.
+-- A header written part by part. Assumes nothing.
 use mathlib.Core.Path.{_≡_, refl, sym, ap, _∙_}
 use Prim.Native.Nat.{ℕ, suc, _+_, _-_, _≤_, _<_}
 use mathlib.Core.List.{List, [], _∷_, _++_, append-assoc, append-nil}
 use native.Mathlib.Omega.{arith}
-use native.Mathlib.Nat.{add-zero}
-use lib.ListN.{length, take, drop, replicate, set, length-append, length-drop, length-replicate, replicate-append-replicate, drop-of-length-le}
-use lib.Seq.{sets, sets-eq, length-sets, take-all, take-length, take-at, drop-drop}
+use lib.ListN.{length, take, drop, replicate, length-append, length-replicate, replicate-append-replicate}
+use lib.Seq.{take-at}
 use borrow.Author.Tests.{lt-ltb, le-ltb, eq-eqb, ne-eqb}
-use borrow.Rule.Slice.PartMut.{putMid}
+use Rattle.output.specs.Puts.{Puts}
+use Rattle.output.proofs.Laws.{puts-then, puts-none, puts-as, puts-whole}
 use Rattle.refusals.specs.Answer.{gives, refused}
 use mathlib.Core.Bool.{Bool, true, false}
 use Rattle.tags.specs.Bytes.{littleEndian, tagBytes, fieldBytes}
 use Rattle.tags.proofs.Found.{field-append}
 use Rattle.header.specs.declared.Header.{Header}
-use Rattle.header_writer.specs.Writing.{front, requiredFields, hintFields, ending, headerBytes, write, writeHeader, Puts}
-
--- what is written behind is written with it
-sets-append : (l : List ℕ) (i : ℕ) (a b : List ℕ) → sets (sets l i a) (i + length a) b ≡ sets l i (a ++ b)
-sets-append l i [] b = ap (λ (k : ℕ). sets l k b) (add-zero i)
-sets-append l i (x ∷ a) b =
-    let e : i + suc (length a) ≡ suc i + length a = omega arith in
-    ap (λ (k : ℕ). sets (sets (set l i x) (suc i) a) k b) e ∙ sets-append (set l i x) (suc i) a b
-
-pub puts-then : {d e f a b : List ℕ} {p q r : ℕ} → Puts d e p a q → Puts e f q b r → Puts d f p (a ++ b) r
-puts-then {d} {e} {f} {a} {b} {p} {q} {r} x y =
-    record {
-      is = y .is ∙ ap (λ (z : List ℕ). sets z q b) (x .is) ∙ ap (λ (k : ℕ). sets (sets d p a) k b) (x .behind) ∙ sets-append d p a b;
-      behind = omega (arith, x .behind, y .behind, length-append a b);
-    }
-
-pub puts-none : {d : List ℕ} {p : ℕ} → Puts d d p [] p
-puts-none {d} {p} = record { is = refl; behind = sym (add-zero p) }
-
-pub puts-as : {d e a b : List ℕ} {p q : ℕ} → Puts d e p a q → a ≡ b → Puts d e p b q
-puts-as {d} {e} {a} {b} {p} {q} x same = rw same at x
-
-pub puts-length : {d e a : List ℕ} {p q : ℕ} → Puts d e p a q → length e ≡ length d
-puts-length {d} {e} {a} {p} x = ap length (x .is) ∙ length-sets d p a
-
--- bytes copied to the start of a part that goes to the buffer's end
-pub puts-copied : (d b y : List ℕ) (p q : ℕ) → p + length b ≤ length d → q ≡ p + length b
-    → y ≡ take (length b) b ++ drop (length b) (take (length d - p) (drop p d)) → Puts d (putMid p (length d - p) d y) p b q
-puts-copied d b y p q fits at e =
-    let part : take (length d - p) (drop p d) ≡ drop p d = take-all (length d - p) (drop p d) (omega (arith, length-drop p d)) in
-    let none : drop (length d - p) (drop p d) ≡ [] =
-    drop-of-length-le (drop p d) {i = length d - p} (omega (arith, length-drop p d)) in
-    record {
-      is =
-          rw (e, part, take-length, drop-drop (length b) p d, none, append-nil)
-          (sym (append-assoc (take p d) b (drop (p + length b) d)) ∙ sym (sets-eq b d p fits));
-      behind = at;
-    }
+use Rattle.header_writer.specs.Writing.{front, requiredFields, hintFields, ending, headerBytes, write, writeHeader}
 
 -- a tag, in three parts
 pub puts-tag : {d d₁ d₂ d₃ x y b : List ℕ} {p p₁ p₂ p₃ : ℕ} (t : ℕ) → x ≡ littleEndian 2 t → y ≡ littleEndian 2 (length b)
@@ -133,8 +96,8 @@ puts-header {d} {d₄ = d₄} {p₃ = p₃} {p₄ = p₄} v room required option
     let whole : Puts d d₄ 0 (headerBytes v) p₄ =
     puts-as (puts-then x₁ (puts-then (puts-then x₂ x₃) x₄))
     (ap (λ (l : List ℕ). front v ++ (l ++ ending p₃)) (sym split) ∙ ap (λ (k : ℕ). front v ++ (t ++ ending k)) place) in
-    let l : 0 + length (headerBytes v) ≡ 256 = omega (arith, length-header v required optional) in
-    whole .is ∙ sets-eq (headerBytes v) d 0 (omega arith) ∙ ap (λ (k : ℕ). headerBytes v ++ drop k d) l
+    let l : length (headerBytes v) ≡ 256 = length-header v required optional in
+    puts-whole whole (omega arith) ∙ ap (λ (k : ℕ). headerBytes v ++ drop k d) l
 
 -- what the writer answers, by the tests on the way
 module _ (v : Header) (out : List ℕ) where

@@ -5,7 +5,6 @@ use mathlib.Core.List.{List, [], _∷_, _++_}
 use mathlib.Core.Bool.{Bool, true, false, cond}
 use lib.Dec.{ltb, eqb}
 use lib.ListN.{length, drop, replicate}
-use lib.Seq.{sets}
 use Rattle.refusals.specs.Answer.{Answer, gives, refused}
 use Rattle.tags.specs.Bytes.{littleEndian, Field, fieldBytes}
 use Rattle.header.specs.declared.Header.{Header}
@@ -64,8 +63,3 @@ unfoldable pub writeHeader : Header → List ℕ → Write
 writeHeader v out =
     cond (ltb (length out) 256) (write (refused 16 0) out)
     (cond (eqb (v .size) 0) (write (refused 3 4) out) (write (gives tt) (headerBytes v ++ drop 256 out)))
-
--- For the functions that write a part of it: bytes written at a place, all others kept, and the place behind them.
-pub record Puts (before after : List ℕ) (at : ℕ) (bytes : List ℕ) (next : ℕ) : Type 0 where
-  pub is : after ≡ sets before at bytes
-  pub behind : next ≡ at + length bytes

@@ -1,11 +1,13 @@
 // The writer of a rustBoot header.
 use header::Header;
+use output::put;
 ghost use mathlib.Core.Path.{_≡_};
 ghost use Prim.Native.Nat.{_+_, _≤_, _<_};
 ghost use mathlib.Core.List.{_++_};
 ghost use lib.ListN.{length};
 ghost use Rattle.tags.specs.Bytes.{littleEndian, tagBytes, fieldBytes};
-ghost use Rattle.header_writer.specs.Writing.{front, requiredFields, hintFields, ending, answerOf, write, writeHeader, Puts};
+ghost use Rattle.header_writer.specs.Writing.{front, requiredFields, hintFields, ending, answerOf, write, writeHeader};
+ghost use Rattle.output.specs.Puts.{Puts};
 
 // The writer's answer.
 pub enum WriteOutcome {
@@ -48,16 +50,7 @@ fn u64_bytes(v: u64) -> [u8; 8]
     ]
 }
 
-// Writes bytes at a place, and no other. Like the functions below it answers the place behind them.
-fn put(out: &mut [u8], at: usize, b: &[u8]) -> usize
-    requires { ⌜ at + length (now b) ≤ length (now out) ⌝ }
-    ensures { λ r. ⌜ Puts (now (out .entry)) (now (out .exit)) at (now (b .entry)) r ⌝ }
-{
-    bytes::copy(b, &mut out[at..]);
-    at + b.len()
-}
-
-// Writes a tag at a place: its type, its length and its value.
+// Writes a tag at a place: its type, its length and its value. Like the functions below it answers the place behind what it wrote.
 fn put_tag(out: &mut [u8], at: usize, kind: usize, b: &[u8]) -> usize
     requires { ⌜ (at + (4 + length (now b)) ≤ length (now out)) × (length (now b) < 65536) × (kind < 65536) ⌝ }
     ensures { λ r. ⌜ Puts (now (out .entry)) (now (out .exit)) at (tagBytes kind (now (b .entry))) r ⌝ }

@@ -1,5 +1,5 @@
 -- `put_front` meets its contract. Assumes nothing.
-use Rattle.header_writer.proofs.Putting.{puts-then, puts-as}
+use Rattle.output.proofs.Laws.{puts-then, puts-as}
 use borrow.Author.Needs.{needs}
 use Rattle.header_writer.proofs.put_front.Statement.{statement}
 use Rattle.header_writer.proofs.put_front.Tie as tie

@@ -1,9 +1,9 @@
 -- `put` meets its contract. Assumes nothing.
 use mathlib.Core.Path.{refl}
-use Rattle.header_writer.proofs.Putting.{puts-copied}
+use Rattle.output.proofs.Laws.{puts-copied}
 use borrow.Author.Needs.{needs}
-use Rattle.header_writer.proofs.put.Statement.{statement}
-use Rattle.header_writer.proofs.put.Tie as tie
+use Rattle.output.proofs.put.Statement.{statement}
+use Rattle.output.proofs.put.Tie as tie
 
 returns : tie.Need-returns
 returns c = let s = c .before .before .before .before .before .before in puts-copied (s .args .out .now) (s .args .b .now) _ (s .args .at) _ (s .pre) refl (c .before .before .copy .ensures .1)

@@ -1,0 +1,2 @@
+-- Laws of bytes written one behind another.
+pub mod Laws

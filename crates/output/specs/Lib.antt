@@ -1,0 +1,2 @@
+-- What a write into a lent output leaves.
+pub mod Puts
