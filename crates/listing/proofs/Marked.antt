@@ -1,0 +1,43 @@
+-- Document 01's examples of the listing. Assumes nothing.
+use mathlib.Core.Path.{_≡_, refl, ap}
+use Prim.Native.Nat.{ℕ, _≤_}
+use mathlib.Core.List.{List}
+use native.Mathlib.Omega.{arith}
+use mathlib.Core.Bool.{Bool, true, false}
+use lib.Dec.{ltb}
+use lib.ListN.{length, take}
+use lib.Seq.{take-take, take-all, length-take-le}
+use borrow.Author.Tests.{ltb-true, ltb-false, le-ltb}
+use Rattle.tags.specs.Walk.{itemAt, itemFrom, tagsFrom}
+use Rattle.header.specs.Reading.{judge, rowOf, placesIn, readHeader}
+use Rattle.header.proofs.Answers.{short}
+use Rattle.listing.specs.Listing.{placesWithin, decimal, fields, refusal, listing}
+use Rattle.listing.specs.Examples.{ListsExample, MissingVersion, ListsBytes, TooShort, FirstBytesOnly}
+
+pub lists-example : ListsExample
+unfolding placesWithin decimal fields
+lists-example digest signature hint = refl
+
+pub missing-version : MissingVersion
+unfolding placesWithin decimal refusal
+missing-version = refl
+
+pub lists-bytes : ListsBytes
+unfolding readHeader placesIn judge rowOf tagsFrom itemFrom itemAt placesWithin decimal fields refusal
+lists-bytes = (refl, refl)
+
+pub too-short : TooShort
+unfolding placesWithin decimal refusal
+too-short s h = ap listing (short s h)
+
+-- a buffer and its first 256 bytes read alike
+alike : (s : List ℕ) (b : Bool) → ltb (length s) 256 ≡ b → readHeader (take 256 s) ≡ readHeader s
+unfolding readHeader
+alike s true e = ap readHeader (take-all 256 s (omega (arith, ltb-true (length s) 256 e)))
+alike s false e =
+    let room : 256 ≤ length s = ltb-false (length s) 256 e in
+    let p : ltb (length (take 256 s)) 256 ≡ false = le-ltb (length (take 256 s)) 256 (omega (arith, length-take-le 256 s room)) in
+    rw (take-take 256 256 s (omega arith), p, e)
+
+pub first-bytes-only : FirstBytesOnly
+first-bytes-only s = ap listing (alike s (ltb (length s) 256) refl)
