@@ -1,0 +1,139 @@
+-- What the tests of a geometry and of the lengths say, as facts, and the other way round.
+use mathlib.Core.Path.{_≡_, refl, sym, ap, _∙_}
+use mathlib.Core.Bool.{Bool, true, false, _&&_}
+use mathlib.Core.List.{List}
+use Prim.Native.Nat.{ℕ, suc, _+_, _*_, _/_, _%_, _≤_, _<_}
+use native.Mathlib.Nat.{mul-le-mul, mul-le-mul-right, suc-mul, le-of-mul-le-mul-right}
+use native.Mathlib.Omega.{arith}
+use lib.ListN.{length}
+use lib.Dec.{leb, eqb}
+use borrow.Author.Tests.{leb-true, eqb-true, le-leb, eq-eqb}
+use Rattle.flash.specs.declared.Geometry.{Geometry}
+use Rattle.flash.specs.Sizes.{firmware, partitionSize, withinLimits, Limits}
+use Rattle.flash.specs.Sectors.{Partition}
+use Rattle.flash.specs.SectorFlags.{flagByte}
+use Rattle.flash.specs.Buffers.{Flash, partitionFits, fits, Shaped}
+
+and-left : (a b : Bool) → a && b ≡ true → a ≡ true
+and-left true b e = refl
+and-left false b e = e
+
+and-right : (a b : Bool) → a && b ≡ true → b ≡ true
+and-right true b e = e
+and-right false b e = absurd (let z : _≡_ {A = ℕ} 0 1 = cc in omega arith)
+
+-- ---- a geometry
+
+pub limits-of : (g : Geometry) → withinLimits g ≡ true → Limits g
+unfolding withinLimits firmware
+limits-of g h =
+    let a = leb 2 (g .sectors) in
+    let b = leb (g .sectors) 64 in
+    let c = leb 256 (g .size) in
+    let d = leb (g .size) 131072 in
+    let e = eqb (g .size % 256) 0 in
+    let h₄ = and-left (a && b && c && d) e h in
+    let h₃ = and-left (a && b && c) d h₄ in
+    let h₂ = and-left (a && b) c h₃ in
+    let n : g .sectors ≤ 64 = leb-true (g .sectors) 64 (and-right a b h₂) in
+    let s : 256 ≤ g .size = leb-true 256 (g .size) (and-right (a && b) c h₃) in
+    record {
+      few = leb-true 2 (g .sectors) (and-left a b h₂);
+      many = n;
+      small = s;
+      large = leb-true (g .size) 131072 (and-right (a && b && c) d h₄);
+      unit = eqb-true (g .size % 256) 0 (and-right (a && b && c && d) e h);
+      trailer = omega arith;
+    }
+
+pub limits-within : (g : Geometry) → Limits g → withinLimits g ≡ true
+unfolding withinLimits
+limits-within g G =
+    simp (le-leb _ _ (G .few), le-leb _ _ (G .many), le-leb _ _ (G .small), le-leb _ _ (G .large), eq-eqb _ _ (G .unit))
+
+-- n is m + 1
+pub sectors-are : (g : Geometry) → Limits g → g .sectors ≡ suc (firmware g)
+unfolding firmware
+sectors-are g G = omega (arith, G .few)
+
+pub some-firmware : (g : Geometry) → Limits g → 1 ≤ firmware g
+unfolding firmware
+some-firmware g G = omega (arith, G .few)
+
+-- n × S is m × S + S
+pub size-split : (g : Geometry) → Limits g → partitionSize g ≡ firmware g * g .size + g .size
+size-split g G = ap (λ (n : ℕ). n * g .size) (sectors-are g G) ∙ suc-mul (firmware g) (g .size)
+
+pub size-small : (g : Geometry) → Limits g → partitionSize g ≤ 64 * 131072
+size-small g G = mul-le-mul (G .many) (G .large)
+
+-- the status byte, and the byte of sector i's flag, lie in the partition
+pub status-room : (g : Geometry) → Limits g → 256 ≤ partitionSize g
+status-room g G = omega (arith, size-split g G, G .small)
+
+pub flag-room : (g : Geometry) → Limits g → (i : ℕ) → i < firmware g → 3 + i / 2 ≤ partitionSize g
+flag-room g G i h = omega (arith, size-split g G, G .trailer, G .small, mul-le-mul-right (g .size) (some-firmware g G))
+
+pub flag-inside : (g : Geometry) → Limits g → (i : ℕ) → i < firmware g → flagByte g i < partitionSize g
+unfolding flagByte
+flag-inside g G i h = omega (arith, flag-room g G i h)
+
+-- sector i ends within the partition, before any later sector begins
+pub sector-end : (s i j : ℕ) → i < j → i * s + s ≤ j * s
+sector-end s i j h = rw suc-mul at (mul-le-mul-right {m = suc i} {n = j} s h)
+
+-- ---- lengths
+
+pub partition-of : (g : Geometry) (l : List ℕ) → partitionFits g l ≡ true → Partition g l
+unfolding partitionFits
+partition-of g l h = record {
+  limits = limits-of g (and-left (withinLimits g) (eqb (length l) (partitionSize g)) h);
+  whole = eqb-true (length l) (partitionSize g) (and-right (withinLimits g) (eqb (length l) (partitionSize g)) h);
+}
+
+pub partition-fits : (g : Geometry) (l : List ℕ) → Partition g l → partitionFits g l ≡ true
+unfolding partitionFits
+partition-fits g l P = simp (limits-within g (P .limits), eq-eqb _ _ (P .whole))
+
+pub shaped-of : (g : Geometry) (f : Flash) → fits g f ≡ true → Shaped g f
+unfolding fits
+shaped-of g f h =
+    let u = eqb (length (f .update)) (partitionSize g) in
+    let s = eqb (length (f .swap)) (g .size) in
+    let k = and-left (partitionFits g (f .boot) && u) s h in
+    let b : Partition g (f .boot) = partition-of g (f .boot) (and-left (partitionFits g (f .boot)) u k) in
+    record {
+      limits = b .limits;
+      boot = b .whole;
+      update = eqb-true (length (f .update)) (partitionSize g) (and-right (partitionFits g (f .boot)) u k);
+      swap = eqb-true (length (f .swap)) (g .size) (and-right (partitionFits g (f .boot) && u) s h);
+    }
+
+pub boot-partition : (g : Geometry) (f : Flash) → Shaped g f → Partition g (f .boot)
+boot-partition g f s = record { limits = s .limits; whole = s .boot }
+
+pub update-partition : (g : Geometry) (f : Flash) → Shaped g f → Partition g (f .update)
+update-partition g f s = record { limits = s .limits; whole = s .update }
+
+pub shaped-fits : (g : Geometry) (f : Flash) → Shaped g f → fits g f ≡ true
+unfolding fits
+shaped-fits g f s = simp (partition-fits g (f .boot) (boot-partition g f s), eq-eqb _ _ (s .update), eq-eqb _ _ (s .swap))
+
+-- three buffers fit one geometry only
+pub same-geometry : (g g′ : Geometry) (f : Flash) → Shaped g f → Shaped g′ f → g′ ≡ g
+same-geometry g g′ f s s′ = λ i. record { sectors = k i; size = e i }
+  where
+    e : g′ .size ≡ g .size
+    e = sym (s′ .swap) ∙ s .swap
+
+    l : g′ .sectors * g .size ≡ g .sectors * g .size
+    l = ap (λ (n : ℕ). g′ .sectors * n) (sym e) ∙ sym (s′ .boot) ∙ s .boot
+
+    a : g′ .sectors ≤ g .sectors
+    a = le-of-mul-le-mul-right {k = g .size} (omega (arith, l)) (omega (arith, s .limits .small))
+
+    b : g .sectors ≤ g′ .sectors
+    b = le-of-mul-le-mul-right {k = g .size} (omega (arith, l)) (omega (arith, s .limits .small))
+
+    k : g′ .sectors ≡ g .sectors
+    k = omega (arith, a, b)

@@ -1,0 +1,68 @@
+-- Document 01, "The flash": a sector, and what an erase and a copy leave.
+use mathlib.Core.Path.{_≡_}
+use mathlib.Core.Bool.{cond}
+use mathlib.Core.List.{List, _++_}
+use Prim.Native.Nat.{ℕ, _+_, _*_, _≤_}
+use lib.ListN.{length, take, drop, replicate}
+use lib.Dec.{eqb}
+use Rattle.refusals.specs.Answer.{Answer, gives, refused}
+use Rattle.flash.specs.declared.Geometry.{Geometry}
+use Rattle.flash.specs.declared.SectorNumber.{SectorNumber}
+use Rattle.flash.specs.declared.CopyAnswer.{CopyAnswer}
+use Rattle.flash.specs.declared.CopyAnswer.the-variants.{Done, Unequal}
+use Rattle.flash.specs.Sizes.{Limits, firmware, partitionSize}
+
+abbrev pub sectorNumber : ℕ → SectorNumber
+sectorNumber i = record { 0 = i }
+
+-- the bytes of a partition of a checked geometry, which the functions on its sectors require
+pub record Partition (g : Geometry) (l : List ℕ) : Type 0 where
+  pub limits : Limits g
+  pub whole : length l ≡ partitionSize g
+
+-- `at` is the byte offset of sector i, which ends within the partition; the partition has 8 MiB at most
+pub record SectorAt (g : Geometry) (i at : ℕ) : Type 0 where
+  pub is : at ≡ i * g .size
+  pub within : at + g .size ≤ partitionSize g
+  pub small : partitionSize g ≤ 64 * 131072
+
+-- the s bytes of l from place a on
+unfoldable pub part : ℕ → ℕ → List ℕ → List ℕ
+part a s l = take s (drop a l)
+
+-- l with x written over its bytes from place a on
+unfoldable pub patch : ℕ → List ℕ → List ℕ → List ℕ
+patch a x l = take a l ++ x ++ drop (a + length x) l
+
+-- sector i of the partition l
+abbrev pub sectorOf : Geometry → ℕ → List ℕ → List ℕ
+sectorOf g i l = part (i * g .size) (g .size) l
+
+-- the partition l with x written over its sector i, and nothing else: an erase, a copy and a torn write differ in x alone
+abbrev pub writeSector : Geometry → ℕ → List ℕ → List ℕ → List ℕ
+writeSector g i x l = patch (i * g .size) x l
+
+-- the bytes of the firmware sectors, which are all that an image may fill
+abbrev pub firmwareOf : Geometry → List ℕ → List ℕ
+firmwareOf g l = take (firmware g * g .size) l
+
+-- an erased sector of s bytes: nothing but FF
+unfoldable pub erased : ℕ → List ℕ
+erased s = replicate s 0xFF
+
+-- lengths that differ are refusal 1
+abbrev pub copyAnswer : CopyAnswer → Answer (Unit {0})
+copyAnswer Done = gives tt
+copyAnswer Unequal = refused 1 0
+
+-- what a copy answers, and the bytes of its target afterwards
+pub record Copy : Type 0 where
+  pub answer : Answer (Unit {0})
+  pub bytes : List ℕ
+
+abbrev pub copied : CopyAnswer → List ℕ → Copy
+copied a l = record { answer = copyAnswer a; bytes = l }
+
+-- a copy puts the source's bytes in place of the target's; refused, it leaves the target alone
+unfoldable pub copyOf : List ℕ → List ℕ → Copy
+copyOf target source = cond (eqb (length target) (length source)) (copied Done source) (copied Unequal target)

@@ -1,0 +1,51 @@
+-- Document 01, "The flash": the geometry of a partition and its limits.
+use mathlib.Core.Path.{_≡_}
+use mathlib.Core.Bool.{Bool, cond, _&&_}
+use Prim.Native.Nat.{ℕ, _+_, _-_, _*_, _/_, _%_, _≤_}
+use lib.Dec.{leb, eqb}
+use Rattle.refusals.specs.Answer.{Answer, gives, refused}
+use Rattle.flash.specs.declared.Geometry.{Geometry}
+use Rattle.flash.specs.declared.GeometryAnswer.{GeometryAnswer}
+use Rattle.flash.specs.declared.GeometryAnswer.the-variants.{Fits, Outside}
+
+-- n sectors of s bytes
+abbrev pub geometry : ℕ → ℕ → Geometry
+geometry n s = record { sectors = n; size = s }
+
+-- 01's m, the number of firmware sectors. They come first; sector m, the last one, is the trailer sector
+unfoldable pub firmware : Geometry → ℕ
+firmware g = g .sectors - 1
+
+-- the bytes of BOOT, and of UPDATE: n × S
+abbrev pub partitionSize : Geometry → ℕ
+partitionSize g = g .sectors * g .size
+
+-- the bytes that a trailer needs: the status byte, and half a byte for each firmware sector, rounded up
+abbrev pub trailerLength : Geometry → ℕ
+trailerLength g = 1 + (firmware g + 1) / 2
+
+-- the limits: 2 to 64 sectors, of 256 to 131,072 bytes in steps of 256
+unfoldable pub withinLimits : Geometry → Bool
+withinLimits g = leb 2 (g .sectors) && leb (g .sectors) 64 && leb 256 (g .size) && leb (g .size) 131072 && eqb (g .size % 256) 0
+
+-- the same as facts, which the functions on a checked geometry require
+pub record Limits (g : Geometry) : Type 0 where
+  pub few : 2 ≤ g .sectors
+  pub many : g .sectors ≤ 64
+  pub small : 256 ≤ g .size
+  pub large : g .size ≤ 131072
+  pub unit : g .size % 256 ≡ 0
+  -- the trailer fits one sector: today it follows from the others
+  pub trailer : trailerLength g ≤ g .size
+
+-- what is outside the limits is refusal 1
+abbrev pub geometryAnswer : GeometryAnswer → Answer Geometry
+geometryAnswer (Fits g) = gives g
+geometryAnswer Outside = refused 1 0
+
+-- the geometry of n sectors of s bytes where the rules hold, and otherwise the refusal
+abbrev pub geometryWhere : Bool → ℕ → ℕ → Answer Geometry
+geometryWhere b n s = geometryAnswer (cond b (Fits (geometry n s)) Outside)
+
+unfoldable pub geometryOf : ℕ → ℕ → Answer Geometry
+geometryOf n s = geometryWhere (withinLimits (geometry n s)) n s

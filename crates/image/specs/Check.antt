@@ -1,0 +1,55 @@
+-- Document 01, "Image check".
+use mathlib.Core.Path.{_≡_}
+use Prim.Native.Nat.{ℕ, _-_}
+use mathlib.Core.Bool.{Bool, true, false, cond, _&&_}
+use mathlib.Core.List.{List, [], _∷_}
+use lib.Dec.{ltb, eqb}
+use lib.ListN.{length, take, drop}
+use Rattle.refusals.specs.Answer.{Answer, gives, refused, then}
+use Rattle.sha256.specs.Fips.{sha256}
+use Rattle.header.specs.declared.Header.{Header}
+use Rattle.header.specs.Reading.{readHeader, valuesOf}
+use Rattle.header.specs.Reading as header
+use Rattle.flash.specs.declared.Geometry.{Geometry}
+use Rattle.flash.specs.Sectors.{firmwareOf}
+use Rattle.flash.specs.Buffers.{partitionOf}
+use Rattle.image.specs.declared.ImageOutcome.{ImageOutcome}
+use Rattle.image.specs.declared.ImageOutcome.the-variants.{Good, OutsideRules, BadHeader, TooLarge, WrongDigest}
+use Rattle.image.specs.declared.ImageAnswer.{ImageAnswer}
+
+-- The paper's number and place for each case of the code's outcome. A bad header has the reader's own.
+abbrev pub answerOf : {A : Type 0} → ImageOutcome → A → Answer A
+answerOf Good a = gives a
+answerOf OutsideRules a = refused 1 0
+answerOf (BadHeader o) a = header.answerOf o a
+answerOf TooLarge a = refused 3 4
+answerOf WrongDigest a = refused 9 256
+
+-- Two strings of bytes are the same.
+unfoldable pub same : List ℕ → List ℕ → Bool
+same [] [] = true
+same [] (y ∷ ys) = false
+same (x ∷ xs) [] = false
+same (x ∷ xs) (y ∷ ys) = eqb x y && same xs ys
+
+-- What the digest covers: of the bytes b from a header on, the firmware alone, behind the header and as long as the header says.
+abbrev pub covered : List ℕ → Header → List ℕ
+covered b v = take (v .size) (drop 256 b)
+
+-- The values v were read from the header of b. A firmware that the bytes behind the header cannot hold is 3, another digest is 9.
+abbrev pub judged : List ℕ → Header → Answer Header
+judged b v =
+    cond (ltb (length b - 256) (v .size)) (refused 3 4) (cond (same (sha256 (covered b v)) (v .digest)) (gives v) (refused 9 256))
+
+-- The check of the image in the bytes b of the firmware sectors: the whole reader first.
+unfoldable pub imageIn : List ℕ → Answer Header
+imageIn b = then (readHeader b) (judged b)
+
+-- The check of a partition: 1 first; then the image in its firmware sectors, so that the trailer sector has no say.
+unfoldable pub checkImage : ℕ → ℕ → List ℕ → Answer Header
+checkImage n s l = then (partitionOf n s l) (λ g. imageIn (firmwareOf g l))
+
+-- What a check promises: its outcome, and the header's values, blank beside a refusal.
+pub record Checks (answer : Answer Header) (r : ImageAnswer) : Type 0 where
+  pub outcome : answerOf (r .outcome) (r .header) ≡ answer
+  pub values : r .header ≡ valuesOf answer

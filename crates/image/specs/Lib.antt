@@ -1,0 +1,2 @@
+-- The check of a firmware image.
+pub mod Check
