@@ -1,0 +1,3 @@
+-- The proofs of the statements of specs/.
+pub mod Delivered
+pub mod Started

@@ -1,0 +1,50 @@
+-- The two starts of specs/Witness.antt, computed. Assumes nothing.
+use mathlib.Core.Path.{_≡_, refl}
+use Rattle.flash.specs.declared.Flags.the-variants.{AllF}
+use Rattle.flash.specs.Sizes.{firmware, withinLimits}
+use Rattle.flash.specs.StatusBytes.{statusByte, bootStatusOf, updateStatusOf}
+use Rattle.flash.specs.SectorFlags.{flagOf, flagByte, half, flagAt, flagsFrom, flags, allF, pastZeros, flagsShown, flagsAt}
+use Rattle.flash.specs.Buffers.{partitionFits, fits}
+use Rattle.sha256.specs.Fips.{first, bigEndian, Ch, Maj, Σ₀, Σ₁, σ₀, σ₁, K, zeros, padding, pad, block, word, words, H0, nextWord, schedule, round, rounds, nextHash, compress, hash, bytes, sha256}
+use Rattle.tags.specs.Walk.{itemAt, itemFrom, tagsFrom}
+use Rattle.tags.specs.Bytes.{fieldBytes}
+use Rattle.header.specs.Reading.{rowOf, judge, placesIn, readHeader}
+use Rattle.header_writer.specs.Writing.{headerBytes}
+use Rattle.image.specs.Check.{same, imageIn}
+use Rattle.exchange.specs.Decision.{decide}
+use Rattle.exchange.specs.Demand.{update, fallback, Starts}
+use Rattle.exchange.specs.Cases.{three}
+use Rattle.exchange.proofs.Reached.{finish-reached}
+use Rattle.loader.specs.Loader.{checkOf}
+use Rattle.delivered.specs.Witness.{partitionOf, armed, onTest, Witness, Witnesses}
+use Rattle.delivered.proofs.Delivered.{reads-firmware}
+
+armed-starts : Starts checkOf update three armed
+unfolding
+    armed partitionOf headerBytes fieldBytes sha256 bytes hash compress nextHash rounds round schedule nextWord H0 words word block pad padding zeros K σ₁ σ₀ Σ₁ Σ₀ Maj Ch bigEndian first
+    decide fits partitionFits withinLimits statusByte bootStatusOf updateStatusOf flagsAt flagsShown pastZeros allF flags flagsFrom flagAt half flagByte flagOf firmware
+    checkOf imageIn same readHeader placesIn judge rowOf tagsFrom itemFrom itemAt
+armed-starts = record { decided = refl; flagsF = refl }
+
+on-test-starts : Starts checkOf fallback three onTest
+unfolding
+    onTest partitionOf headerBytes fieldBytes sha256 bytes hash compress nextHash rounds round schedule nextWord H0 words word block pad padding zeros K σ₁ σ₀ Σ₁ Σ₀ Maj Ch bigEndian first
+    decide fits partitionFits withinLimits statusByte bootStatusOf updateStatusOf flagsAt flagsShown pastZeros allF flags flagsFrom flagAt half flagByte flagOf firmware
+    checkOf imageIn same readHeader placesIn judge rowOf tagsFrom itemFrom itemAt
+on-test-starts = record { decided = refl; flagsF = refl }
+
+pub witnesses : Witnesses
+unfolding firmware
+witnesses =
+    record {
+      ofUpdate =
+          record {
+            starts = armed-starts;
+            finishes = λ t len budget le. finish-reached checkOf update three armed (reads-firmware three) armed-starts t len budget le;
+          };
+      ofFallback =
+          record {
+            starts = on-test-starts;
+            finishes = λ t len budget le. finish-reached checkOf fallback three onTest (reads-firmware three) on-test-starts t len budget le;
+          };
+    }

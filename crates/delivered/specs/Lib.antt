@@ -1,0 +1,4 @@
+-- What is claimed of the delivered calls.
+pub mod Demand
+pub mod MarkedCases
+pub mod Witness

@@ -1,0 +1,22 @@
+-- Document 01, "Marked cases": all lines marked P, 1 to 9, as one list and one claim, of the delivered check and the delivered header rules.
+use mathlib.Core.List.{List, _++_, map}
+use Rattle.exchange.specs.Cases as exchange
+use Rattle.exchange.specs.Cases.{ExchangeCase, exchangeCases, Every}
+use Rattle.header_writer.specs.Cases as header
+use Rattle.header_writer.specs.Cases.{HeaderCase, headerCases}
+use Rattle.loader.specs.Loader.{checkOf}
+
+-- Lines 1 to 6 speak of exchanges, lines 7 to 9 of headers.
+pub data MarkedCase : Type 0 where
+  ofExchange : ExchangeCase → MarkedCase
+  ofHeader : HeaderCase → MarkedCase
+
+abbrev pub Holds : MarkedCase → Type 0
+Holds (ofExchange c) = exchange.Holds checkOf c
+Holds (ofHeader c) = header.Holds c
+
+abbrev pub markedCases : List MarkedCase
+markedCases = map ofExchange exchangeCases ++ map ofHeader headerCases
+
+abbrev pub MarkedCases : Type 0
+MarkedCases = Every Holds markedCases

@@ -1,0 +1,48 @@
+-- Demand 3 is not empty: a flash on which the delivered check accepts an update, and a list from there with a refused power-up, a torn copy,
+-- an early end and the finish.
+use mathlib.Core.Path.{_≡_}
+use mathlib.Core.Bool.{false}
+use mathlib.Core.List.{List, [], _∷_, _++_}
+use Prim.Native.Nat.{ℕ, _+_, _≤_}
+use lib.ListN.{length, replicate}
+use Rattle.sha256.specs.Fips.{sha256}
+use Rattle.header.specs.declared.Header.{Header}
+use Rattle.header_writer.specs.Writing.{headerBytes}
+use Rattle.flash.specs.Buffers.{Flash, flash}
+use Rattle.exchange.specs.LostPower.{Torn}
+use Rattle.exchange.specs.Demand.{Exchange, update, fallback, Starts, most}
+use Rattle.exchange.specs.Cases.{three}
+use Rattle.exchange.specs.Reached.{Reached}
+use Rattle.loader.specs.Loader.{checkOf}
+
+-- An image of a version, over a firmware of one byte, in two sectors of 256; and a trailer sector with a status byte.
+abbrev pub headerOf : ℕ → Header
+headerOf version =
+    record {
+      size = 1;
+      version = version;
+      timestamp = 1700000000;
+      digest = sha256 (version ∷ []);
+      signature = replicate 64 0;
+      «auth_type» = 512;
+      «has_hint» = false;
+      hint = replicate 32 0;
+    }
+
+unfoldable pub partitionOf : ℕ → ℕ → List ℕ
+partitionOf version status = headerBytes (headerOf version) ++ (version ∷ replicate 255 0) ++ (replicate 255 0xFF ++ status ∷ [])
+
+-- Version 8 armed over version 7; and version 7 on test, with version 6 to fall back to.
+unfoldable pub armed : Flash
+armed = flash (partitionOf 7 0x00) (partitionOf 8 0x70) (replicate 256 0)
+
+unfoldable pub onTest : Flash
+onTest = flash (partitionOf 7 0x10) (partitionOf 6 0xFF) (replicate 256 0)
+
+pub record Witness (x : Exchange) (f : Flash) : Type 0 where
+  pub starts : Starts checkOf x three f
+  pub finishes : (t : Torn) → length (t .bytes) ≡ 256 → (budget : ℕ) → most x 2 + 2 ≤ budget → Reached checkOf x three f t budget
+
+pub record Witnesses : Type 0 where
+  pub ofUpdate : Witness update armed
+  pub ofFallback : Witness fallback onTest

@@ -1,0 +1,116 @@
+-- What an accepted update and an accepted fallback are, spelled out, and that the checks of power-up give it where all flags are F.
+use mathlib.Core.Path.{_≡_, refl, sym, ap, _∙_}
+use mathlib.Core.Bool.{Bool, true, false, cond}
+use Prim.Native.Nat.{ℕ, _≤_, _<_}
+use native.Mathlib.Decide.{decLt}
+use native.Mathlib.Omega.{arith}
+use lib.Dec.{ltb}
+use borrow.Author.Tests.{le-ltb}
+use Rattle.refusals.specs.Answer.{Answer, gives, refused}
+use Rattle.flash.specs.declared.Geometry.{Geometry}
+use Rattle.flash.specs.declared.BootStatus.{BootStatus}
+use Rattle.flash.specs.declared.BootStatus.the-variants.{New as BootNew, Testing, Success}
+use Rattle.flash.specs.declared.UpdateStatus.{UpdateStatus}
+use Rattle.flash.specs.declared.UpdateStatus.the-variants.{New as UpdateNew, Updating}
+use Rattle.flash.specs.declared.Flags.{Flags}
+use Rattle.flash.specs.declared.Flags.the-variants.{AllF}
+use Rattle.flash.specs.StatusBytes.{bootStatusAt, updateStatusAt}
+use Rattle.flash.specs.SectorFlags.{flagsAt}
+use Rattle.flash.specs.Buffers.{Flash, fits}
+use Rattle.exchange.specs.declared.Job.the-variants.{Update, Fallback, TurnDown}
+use Rattle.exchange.specs.Decision.{Check, because, noReason, Plan, refuse, plain, work, accept, acceptFallback, decideBy, decideStatuses, decide}
+use Rattle.exchange.specs.Demand.{Exchange, update, fallback, jobOf, Starts}
+use Rattle.exchange.specs.RuledOut.{Newer, Good}
+
+-- the answers of the image check, on UPDATE and on BOOT
+abbrev pub Images : Exchange → Answer ℕ → Answer ℕ → Type 0
+Images update u b = Newer u b
+Images fallback u b = Good u
+
+-- the status bytes
+pub data Armed : Exchange → Answer BootStatus → Answer UpdateStatus → Type 0 where
+  boot-new : Armed update (gives BootNew) (gives Updating)
+  boot-success : Armed update (gives Success) (gives Updating)
+  boot-testing : Armed fallback (gives Testing) (gives UpdateNew)
+
+pub record Accepted (check : Check) (x : Exchange) (g : Geometry) (f : Flash) : Type 0 where
+  pub fit : fits g f ≡ true
+  pub armed : Armed x (bootStatusAt g (f .boot)) (updateStatusAt g (f .update))
+  pub images : Images x (check g (f .update)) (check g (f .boot))
+
+-- ---- what decides for an exchange
+
+refused-no-work : (x : Exchange) (n i p : ℕ) → refuse n i p ≡ work (jobOf x) noReason → ⊥
+refused-no-work x n i p e = let z : _≡_ {A = ℕ} 0 1 = cc in omega arith
+
+plain-no-work : (x : Exchange) → plain ≡ work (jobOf x) noReason → ⊥
+plain-no-work x e = let z : _≡_ {A = ℕ} 0 1 = cc in omega arith
+
+cond-work : (b : Bool) (y : Plan) (n i p : ℕ) (x : Exchange) → cond b y (refuse n i p) ≡ work (jobOf x) noReason → (b ≡ true) × (y ≡ work (jobOf x) noReason)
+cond-work true y n i p x e = (refl, e)
+cond-work false y n i p x e = absurd (refused-no-work x n i p e)
+
+-- a version that is not greater turns the update down
+pub not-newer : (v w : ℕ) → v ≤ w → accept (gives v) (gives w) ≡ work TurnDown (because 15 0)
+not-newer v w h = turns-down (ltb w v) (le-ltb w v h)
+  where
+    turns-down : (t : Bool) → t ≡ false → cond t (work Update noReason) (work TurnDown (because 15 0)) ≡ work TurnDown (because 15 0)
+    turns-down true e = absurd (let z : _≡_ {A = ℕ} 0 1 = cc in omega arith)
+    turns-down false e = refl
+
+accept-newer : (u b : Answer ℕ) → accept u b ≡ work Update noReason → Newer u b
+accept-newer (refused n p) b e = absurd (let z : _≡_ {A = ℕ} 0 1 = cc in omega arith)
+accept-newer (gives v) (refused n p) e = absurd (refused-no-work update 12 n p e)
+accept-newer (gives v) (gives w) e = by (decLt w v)
+  where
+    by : Dec (w < v) → Newer (gives v) (gives w)
+    by (yes h) = record { new = v; old = w; updateGood = refl; bootGood = refl; newer = h }
+    by (no h) = let k = not-newer v w (omega arith) in absurd (let z : _≡_ {A = ℕ} 0 1 = cc in omega arith)
+
+accept-no-fallback : (u b : Answer ℕ) → accept u b ≡ work Fallback noReason → ⊥
+accept-no-fallback (refused n p) b e = let z : _≡_ {A = ℕ} 0 1 = cc in omega arith
+accept-no-fallback (gives v) (refused n p) e = refused-no-work fallback 12 n p e
+accept-no-fallback (gives v) (gives w) e = by (ltb w v) e
+  where
+    by : (t : Bool) → cond t (work Update noReason) (work TurnDown (because 15 0)) ≡ work Fallback noReason → ⊥
+    by true e = let z : _≡_ {A = ℕ} 0 1 = cc in omega arith
+    by false e = let z : _≡_ {A = ℕ} 0 1 = cc in omega arith
+
+fallback-good : (u : Answer ℕ) → acceptFallback u ≡ work Fallback noReason → Good u
+fallback-good (refused n p) e = absurd (refused-no-work fallback 13 n p e)
+fallback-good (gives v) e = record { version = v; good = refl }
+
+fallback-no-update : (u : Answer ℕ) → acceptFallback u ≡ work Update noReason → ⊥
+fallback-no-update (refused n p) e = refused-no-work update 13 n p e
+fallback-no-update (gives v) e = let z : _≡_ {A = ℕ} 0 1 = cc in omega arith
+
+-- the statuses and the images, where all flags are F
+record Both (x : Exchange) (bs : Answer BootStatus) (us : Answer UpdateStatus) (u b : Answer ℕ) : Type 0 where
+  armed : Armed x bs us
+  images : Images x u b
+
+by-statuses : (x : Exchange) (bs : BootStatus) (us : UpdateStatus) (u b : Answer ℕ) → decideBy bs us AllF u b ≡ work (jobOf x) noReason → Both x (gives bs) (gives us) u b
+by-statuses x BootNew UpdateNew u b e = absurd (plain-no-work x e)
+by-statuses x Success UpdateNew u b e = absurd (plain-no-work x e)
+by-statuses update Testing UpdateNew u b e = absurd (fallback-no-update u e)
+by-statuses fallback Testing UpdateNew u b e = record { armed = boot-testing; images = fallback-good u e }
+by-statuses update BootNew Updating u b e = record { armed = boot-new; images = accept-newer u b e }
+by-statuses fallback BootNew Updating u b e = absurd (accept-no-fallback u b e)
+by-statuses update Success Updating u b e = record { armed = boot-success; images = accept-newer u b e }
+by-statuses fallback Success Updating u b e = absurd (accept-no-fallback u b e)
+by-statuses x Testing Updating u b e = absurd (refused-no-work x 11 0 0 e)
+
+by-answers : (x : Exchange) (bs : Answer BootStatus) (us : Answer UpdateStatus) (u b : Answer ℕ) → decideStatuses bs us AllF u b ≡ work (jobOf x) noReason → Both x bs us u b
+by-answers x (refused n p) us u b e = absurd (refused-no-work x n 0 0 e)
+by-answers x (gives bs) (refused n p) u b e = absurd (refused-no-work x n 0 0 e)
+by-answers x (gives bs) (gives us) u b e = by-statuses x bs us u b e
+
+pub accepted : (check : Check) (x : Exchange) (g : Geometry) (f : Flash) → Starts check x g f → Accepted check x g f
+unfolding decide
+accepted check x g f s =
+    let k = cond-work (fits g f)
+    (decideStatuses (bootStatusAt g (f .boot)) (updateStatusAt g (f .update)) (flagsAt g (f .update)) (check g (f .update)) (check g (f .boot))) 1 0 0 x (s .decided) in
+    let t : Both x (bootStatusAt g (f .boot)) (updateStatusAt g (f .update)) (check g (f .update)) (check g (f .boot))
+    = by-answers x (bootStatusAt g (f .boot)) (updateStatusAt g (f .update)) (check g (f .update)) (check g (f .boot))
+    (ap (λ (v : Flags). decideStatuses (bootStatusAt g (f .boot)) (updateStatusAt g (f .update)) v (check g (f .update)) (check g (f .boot))) (sym (s .flagsF)) ∙ k .1) in
+    record { fit = k .0; armed = t .armed; images = t .images }

@@ -1,0 +1,358 @@
+-- The marked cases 1 to 6: one law predicts every list of untorn power-ups by numbers alone, and each case is that law, computed.
+use mathlib.Core.Path.{_≡_, refl, sym, ap, ap₂, _∙_, subst}
+use mathlib.Core.Bool.{Bool, true, false, cond, _&&_}
+use mathlib.Core.List.{List, [], _∷_}
+use mathlib.Core.Option.{Option, none, some}
+use Prim.Native.Nat.{ℕ, zero, suc, _+_, _-_, _*_, _/_, _%_, _≤_, _<_, min}
+use native.Mathlib.Omega.{arith}
+use lib.ListN.{getD}
+use lib.Dec.{leb, ltb, eqb}
+use borrow.Author.Tests.{eqb-true, lt-leb, le-leb, lt-ltb, le-ltb}
+use Rattle.refusals.specs.Answer.{Answer, gives, refused}
+use Rattle.flash.specs.declared.BootStatus.{BootStatus}
+use Rattle.flash.specs.declared.BootStatus.the-variants.{New as BootNew, Testing, Success}
+use Rattle.flash.specs.declared.UpdateStatus.{UpdateStatus}
+use Rattle.flash.specs.declared.UpdateStatus.the-variants.{New as UpdateNew, Updating}
+use Rattle.flash.specs.declared.Flag.{Flag}
+use Rattle.flash.specs.declared.FlagRead.the-variants.{Known}
+use Rattle.flash.specs.declared.Flags.{Flags}
+use Rattle.flash.specs.declared.Flags.the-variants.{Malformed, AllF, At, All0}
+use Rattle.flash.specs.Sizes.{firmware, Limits}
+use Rattle.flash.specs.StatusBytes.{bootStatusAt, updateStatusAt}
+use Rattle.flash.specs.SectorFlags.{flagValue, flagOf, flagByte, half, flagAt, flagsFrom, flags, allF, pastZeros, flagsShown, flagsAt}
+use Rattle.flash.specs.Buffers.{Flash, fits}
+use Rattle.exchange.specs.declared.Next.{Next}
+use Rattle.exchange.specs.declared.Next.the-variants.{Do, Nothing}
+use Rattle.exchange.specs.declared.Job.the-variants.{Update}
+use Rattle.exchange.specs.Order.{nextOperation, Run, run}
+use Rattle.exchange.specs.Decision.{Check, noReason, work, decideBy, decide}
+use Rattle.exchange.specs.PowerUp.{Outcome, refusal, cut, PowerUp, doneOutcome, outcomeBy, worked, powerUp}
+use Rattle.exchange.specs.Demand.{Exchange, update, fallback, jobOf, ReadsFirmware}
+use Rattle.exchange.specs.Cases.{three, flagByteOf, after, counts, lastOutcome, Leaves, ExchangeCase, powerUps, malformed, FlagByteIs, LeavesAs, Holds, exchangeCases, Every, MarkedExchange}
+use Rattle.flash.proofs.Checked.{shaped-of}
+use Rattle.flash.proofs.Moves.{moved, legMoves, leg-below}
+use Rattle.exchange.proofs.Accepted.{Images}
+use Rattle.exchange.specs.RuledOut.{Underway, from-new, from-success, from-testing}
+use Rattle.exchange.proofs.Stage.{Closing, erase-boot, write-testing, erase-update, write-success, closingLeft, closing, Closed, on-test, fallen-back, Stage, in-leg, at-last, at-end, Stepped, stepped, step}
+use Rattle.exchange.proofs.Walked.{closing-some, Walked, walked, ended, restart}
+use Rattle.exchange.proofs.Played.{works, end-good}
+use Rattle.exchange.proofs.Whole.{start}
+use Rattle.exchange.proofs.Every.{every}
+
+two : firmware three ≡ 2
+unfolding firmware
+two = refl
+
+-- ---- what the numbers predict: l closing operations, r operations left
+
+abbrev placeLeft : ℕ → ℕ → ℕ
+placeLeft l q = cond (leb q l) 0 ((18 + l - q) % 3)
+
+abbrev nextLeft : ℕ → ℕ → ℕ → ℕ
+nextLeft l r b = r - min b r + placeLeft l (r - min b r)
+
+abbrev leftAfter : ℕ → ℕ → List ℕ → ℕ
+leftAfter l r [] = r
+leftAfter l r (b ∷ bs) = leftAfter l (nextLeft l r b) bs
+
+abbrev countsAfter : ℕ → ℕ → List ℕ → List ℕ
+countsAfter l r [] = []
+countsAfter l r (b ∷ bs) = min b r ∷ countsAfter l (nextLeft l r b) bs
+
+abbrev lastAfter : Exchange → ℕ → ℕ → List ℕ → Outcome → Outcome
+lastAfter x l r [] o = o
+lastAfter x l r (b ∷ bs) o = lastAfter x l (nextLeft l r b) bs (cond (ltb b r) cut (doneOutcome (jobOf x)))
+
+-- no power-up after the finish
+abbrev going : ℕ → ℕ → List ℕ → Bool
+going l r [] = true
+going l r (b ∷ bs) = ltb 0 r && going l (nextLeft l r b) bs
+
+abbrev byteLeft : ℕ → ℕ → ℕ
+byteLeft l q = cond (leb q l) 0 (flagValue (moved ((18 + l - q) / 3)) + 16 * flagValue (moved ((18 + l - q) / 3 - 3)))
+
+abbrev bootLeft : Exchange → ℕ → BootStatus
+bootLeft update zero = Testing
+bootLeft update (suc zero) = Testing
+bootLeft update (suc (suc zero)) = BootNew
+bootLeft update (suc (suc (suc q))) = Success
+bootLeft fallback zero = Success
+bootLeft fallback (suc q) = Testing
+
+abbrev updateLeft : Exchange → ℕ → UpdateStatus
+updateLeft update zero = UpdateNew
+updateLeft update (suc q) = Updating
+updateLeft fallback q = UpdateNew
+
+-- ---- a half byte that reads as v is v's value
+
+read-back : (h : ℕ) (v : Flag) → flagOf h ≡ Known v → h ≡ flagValue v
+unfolding flagOf
+read-back h v e = by (eqb h 15) refl
+  where
+    value : (w : Flag) → Known w ≡ Known v → flagValue w ≡ flagValue v
+    value w k = let e : w ≡ v = cc in ap flagValue e
+
+    by₀ : (t : Bool) → eqb h 0 ≡ t → eqb h 3 ≡ false → eqb h 7 ≡ false → eqb h 15 ≡ false → h ≡ flagValue v
+    by₀ true a b c d = eqb-true h 0 a ∙ value _ (rw (d, c, b, a) at e)
+    by₀ false a b c d = absurd (let k = rw (d, c, b, a) at e in let z : _≡_ {A = ℕ} 0 1 = cc in omega arith)
+
+    by₃ : (t : Bool) → eqb h 3 ≡ t → eqb h 7 ≡ false → eqb h 15 ≡ false → h ≡ flagValue v
+    by₃ true b c d = eqb-true h 3 b ∙ value _ (rw (d, c, b) at e)
+    by₃ false b c d = by₀ (eqb h 0) refl b c d
+
+    by₇ : (t : Bool) → eqb h 7 ≡ t → eqb h 15 ≡ false → h ≡ flagValue v
+    by₇ true c d = eqb-true h 7 c ∙ value _ (rw (d, c) at e)
+    by₇ false c d = by₃ (eqb h 3) refl c d
+
+    by : (t : Bool) → eqb h 15 ≡ t → h ≡ flagValue v
+    by true d = eqb-true h 15 d ∙ value _ (rw d at e)
+    by false d = by₇ (eqb h 7) refl d
+
+-- the flag byte by the two flags
+byte-by-flags : (u : List ℕ) (v w : Flag) → flagAt three u 0 ≡ Known v → flagAt three u 1 ≡ Known w → getD u 766 0 ≡ flagValue v + 16 * flagValue w
+unfolding flagAt flagByte half
+byte-by-flags u v w e₀ e₁ =
+    let h₀ : getD u 766 0 % 16 ≡ flagValue v = read-back (getD u 766 0 % 16) v e₀ in
+    let h₁ : getD u 766 0 / 16 ≡ flagValue w = read-back (getD u 766 0 / 16) w e₁ in
+    omega arith
+
+-- ---- the statuses by the operations left
+
+record Statuses (x : Exchange) (b : BootStatus) (u : UpdateStatus) (q : ℕ) : Type 0 where
+  boot : b ≡ bootLeft x q
+  update : u ≡ updateLeft x q
+
+left-begun : (x : Exchange) (b : BootStatus) (u : UpdateStatus) (B : Underway x b u) (q : ℕ)
+    → ((b : BootStatus) (u : UpdateStatus) (c : Closing x b u) → closingLeft c ≤ closingLeft (closing B)) → closingLeft (closing B) < q → Statuses x b u q
+left-begun x b u from-new q top h = absurd (omega (arith, top Success Updating erase-boot))
+left-begun x b u from-success zero top h = absurd (omega arith)
+left-begun x b u from-success (suc zero) top h = absurd (omega arith)
+left-begun x b u from-success (suc (suc zero)) top h = absurd (omega arith)
+left-begun x b u from-success (suc (suc (suc q))) top h = record { boot = refl; update = refl }
+left-begun x b u from-testing zero top h = absurd (omega arith)
+left-begun x b u from-testing (suc q) top h = record { boot = refl; update = refl }
+
+left-closing : (x : Exchange) (b : BootStatus) (u : UpdateStatus) (c : Closing x b u) → Statuses x b u (closingLeft c)
+left-closing x b u erase-boot = record { boot = refl; update = refl }
+left-closing x b u write-testing = record { boot = refl; update = refl }
+left-closing x b u erase-update = record { boot = refl; update = refl }
+left-closing x b u write-success = record { boot = refl; update = refl }
+
+left-closed : (x : Exchange) (b : BootStatus) (u : UpdateStatus) (c : Closed x b u) → Statuses x b u 0
+left-closed x b u on-test = record { boot = refl; update = refl }
+left-closed x b u fallen-back = record { boot = refl; update = refl }
+
+-- ---- what a case says agrees with the numbers
+
+abbrev ByteAgrees : Option ℕ → ℕ → ℕ → Type 0
+ByteAgrees none l q = Unit {0}
+ByteAgrees (some b) l q = (0 < q) × (byteLeft l q ≡ b)
+
+record Predicted (x : Exchange) (l r : ℕ) (bs : List ℕ) (y : Leaves) : Type 0 where
+  goes : going l r bs ≡ true
+  counted : countsAfter l r bs ≡ y .counted
+  outcome : lastAfter x l r bs cut ≡ y .outcome
+  byte : ByteAgrees (y .flagByte) l (leftAfter l r bs)
+  boot : bootLeft x (leftAfter l r bs) ≡ y .bootStatus
+  update : updateLeft x (leftAfter l r bs) ≡ y .updateStatus
+
+module _ (check : Check) (R : ReadsFirmware check three) (old : Flash) (G : Limits three) {x : Exchange} {b₀ : BootStatus} {u₀ : UpdateStatus} (B : Underway x b₀ u₀)
+    (I : Images x (check three (old .update)) (check three (old .boot))) (fit : fits three old ≡ true)
+    (top : (b : BootStatus) (u : UpdateStatus) (c : Closing x b u) → closingLeft c ≤ closingLeft (closing B)) where
+  -- the place is known by the operations left
+  place-of : (f : Flash) (p q : ℕ) → Stage three old B f p q → p ≡ placeLeft (closingLeft (closing B)) q
+  place-of f p q (in-leg i leg hi hp s e₁ e₂ ready n) =
+      rw (lt-leb q (closingLeft (closing B)) (omega (arith, two, leg-below leg))) (omega (arith, two, leg-below leg))
+  place-of f p q (at-last b u c le s e₁ e₂ n z) = rw (le-leb q (closingLeft (closing B)) (omega (arith, top b u c))) z
+  place-of f p q (at-end b u c y s e₁ e₂ n z) = rw (le-leb q (closingLeft (closing B)) (omega arith)) z
+
+  record Ran (f : Flash) (r : ℕ) (bs : List ℕ) (o : Outcome) : Type 0 where
+    stage : Stage three old B (after check f bs) 0 (leftAfter (closingLeft (closing B)) r bs)
+    counted : counts check f bs ≡ countsAfter (closingLeft (closing B)) r bs
+    ends : lastOutcome check f bs o ≡ lastAfter x (closingLeft (closing B)) r bs o
+
+  record One (f : Flash) (r b : ℕ) (a : PowerUp) : Type 0 where
+    stage : Stage three old B (a .flash) 0 (nextLeft (closingLeft (closing B)) r b)
+    counted : a .count ≡ min b r
+    ends : a .outcome ≡ cond (ltb b r) cut (doneOutcome (jobOf x))
+
+  one-run : (f : Flash) (r b : ℕ) (w : Run) → Walked three old B (suc r) b w → One f (suc r) b (worked check three (jobOf x) noReason w)
+  one-run f r b w v = record {
+    stage =
+        let y : Stage three old B (w .flash) (w .place) (suc r - min b (suc r)) = subst (λ (n : ℕ). Stage three old B (w .flash) (w .place) (suc r - n)) (v .counted) (v .stage) in
+        subst (λ (p : ℕ). Stage three old B (w .flash) 0 (suc r - min b (suc r) + p)) (place-of (w .flash) (w .place) (suc r - min b (suc r)) y)
+        (restart three G old B (w .flash) (w .place) (suc r - min b (suc r)) y);
+    counted = v .counted;
+    ends = by (suc r - w .count) refl (v .stage);
+  }
+    where
+      goal : Type 0
+      goal = (worked check three (jobOf x) noReason w) .outcome ≡ cond (ltb b (suc r)) cut (doneOutcome (jobOf x))
+
+      by : (q : ℕ) → suc r - w .count ≡ q → Stage three old B (w .flash) (w .place) q → goal
+      by zero e y =
+          rw (le-ltb b (suc r) (omega (arith, v .counted)))
+          (ap₂ (λ (o : Next) (z : Answer ℕ). outcomeBy o (jobOf x) z) (ended three G old B (w .flash) (w .place) y)
+          (end-good check three G old B I fit R (w .flash) (w .place) y .good))
+      by (suc q) e y = cuts (step three G old B (w .flash) (w .place) q y)
+        where
+          cuts : Stepped three old B (w .flash) (w .place) q → goal
+          cuts (stepped o n s′ torn) = rw (lt-ltb b (suc r) (omega (arith, v .counted))) (ap (λ (z : Next). outcomeBy z (jobOf x) (check three (w .flash .boot))) n)
+
+  one : (f : Flash) (r b : ℕ) → Stage three old B f 0 (suc r) → One f (suc r) b (powerUp check three f b)
+  one f r b s =
+      subst (λ (a : PowerUp). One f (suc r) b a) (sym (works check three G old B I fit R f r s b))
+      (one-run f r b (run (jobOf x) three b 0 f) (walked three G old B b f 0 (suc r) s))
+
+  ran : (bs : List ℕ) (f : Flash) (r : ℕ) (o : Outcome) → Stage three old B f 0 r → going (closingLeft (closing B)) r bs ≡ true → Ran f r bs o
+  unfolding after counts lastOutcome
+  ran [] f r o s h = record { stage = s; counted = refl; ends = refl }
+  ran (b ∷ bs) f zero o s h = absurd (let z : _≡_ {A = ℕ} 0 1 = cc in omega arith)
+  ran (b ∷ bs) f (suc r) o s h =
+      on (one f r b s) (λ y. ran bs ((powerUp check three f b) .flash) (nextLeft (closingLeft (closing B)) (suc r) b) ((powerUp check three f b) .outcome) y
+      (and-right (ltb 0 (suc r)) (going (closingLeft (closing B)) (nextLeft (closingLeft (closing B)) (suc r) b) bs) h))
+    where
+      and-right : (a b : Bool) → a && b ≡ true → b ≡ true
+      and-right true b e = e
+      and-right false b e = absurd (let z : _≡_ {A = ℕ} 0 1 = cc in omega arith)
+
+      on : One f (suc r) b (powerUp check three f b)
+          → (Stage three old B ((powerUp check three f b) .flash) 0 (nextLeft (closingLeft (closing B)) (suc r) b)
+          → Ran ((powerUp check three f b) .flash) (nextLeft (closingLeft (closing B)) (suc r) b) bs ((powerUp check three f b) .outcome))
+          → Ran f (suc r) (b ∷ bs) o
+      on p rest = record {
+        stage = rest (p .stage) .stage;
+        counted = ap₂ (λ (n : ℕ) (ns : List ℕ). n ∷ ns) (p .counted) (rest (p .stage) .counted);
+        ends = rest (p .stage) .ends
+            ∙ ap (λ (y : Outcome). lastAfter x (closingLeft (closing B)) (nextLeft (closingLeft (closing B)) (suc r) b) bs y) (p .ends);
+      }
+
+  byte-of : (f : Flash) (q : ℕ) → Stage three old B f 0 (suc q) → flagByteOf f ≡ byteLeft (closingLeft (closing B)) (suc q)
+  byte-of f q (in-leg i leg hi hp s e₁ e₂ ready n) =
+      let e : (18 + closingLeft (closing B) - suc q) / 3 ≡ 3 * i + legMoves leg = omega (arith, two, leg-below leg) in
+      let z : 3 * i + legMoves leg - 3 * 0 ≡ 3 * i + legMoves leg = omega arith in
+      rw (lt-leb (suc q) (closingLeft (closing B)) (omega (arith, two, leg-below leg)), e)
+      (byte-by-flags (f .update) (moved (3 * i + legMoves leg)) (moved (3 * i + legMoves leg - 3))
+      (s .moves 0 (omega (arith, two)) ∙ ap (λ (a : ℕ). Known (moved a)) z) (s .moves 1 (omega (arith, two))))
+  byte-of f q (at-last b u c le s e₁ e₂ n z) =
+      rw (le-leb (suc q) (closingLeft (closing B)) (omega (arith, top b u c)))
+      (byte-by-flags (f .update) (moved 3) (moved 3) (s .flags0 0 (omega (arith, two))) (s .flags0 1 (omega (arith, two))))
+  byte-of f q (at-end b u c y s e₁ e₂ n z) = absurd (omega arith)
+
+  record StatusesAt (f : Flash) (q : ℕ) : Type 0 where
+    boot : bootStatusAt three (f .boot) ≡ gives (bootLeft x q)
+    update : updateStatusAt three (f .update) ≡ gives (updateLeft x q)
+
+  statuses-at : (f : Flash) (q : ℕ) (b : BootStatus) (u : UpdateStatus) → bootStatusAt three (f .boot) ≡ gives b → updateStatusAt three (f .update) ≡ gives u
+      → Statuses x b u q → StatusesAt f q
+  statuses-at f q b u e₁ e₂ k = record { boot = e₁ ∙ ap gives (k .boot); update = e₂ ∙ ap gives (k .update) }
+
+  status-of : (f : Flash) (q : ℕ) → Stage three old B f 0 q → StatusesAt f q
+  status-of f q (in-leg i leg hi hp s e₁ e₂ ready n) = statuses-at f q b₀ u₀ e₁ e₂ (left-begun x b₀ u₀ B q top (omega (arith, two, leg-below leg)))
+  status-of f q (at-last b u c le s e₁ e₂ n z) = statuses-at f q b u e₁ e₂ (subst (Statuses x b u) (sym n) (left-closing x b u c))
+  status-of f q (at-end b u c y s e₁ e₂ n z) = statuses-at f q b u e₁ e₂ (subst (Statuses x b u) (sym n) (left-closed x b u c))
+
+  byte-is : (b : Option ℕ) (f : Flash) (q : ℕ) → ByteAgrees b (closingLeft (closing B)) q → Stage three old B f 0 q → FlagByteIs b f
+  byte-is none f q h s = tt
+  byte-is (some b) f zero h s = absurd (omega (arith, h .0))
+  byte-is (some b) f (suc q) h s = byte-of f q s ∙ h .1
+
+  -- a case, by what the numbers predict
+  predicted : (bs : List ℕ) (y : Leaves) → Stage three old B old 0 (18 + closingLeft (closing B))
+      → Predicted x (closingLeft (closing B)) (18 + closingLeft (closing B)) bs y → LeavesAs check old bs y
+  predicted bs y s a =
+      let r : Ran old (18 + closingLeft (closing B)) bs cut = ran bs old (18 + closingLeft (closing B)) cut s (a .goes) in
+      let q : ℕ = leftAfter (closingLeft (closing B)) (18 + closingLeft (closing B)) bs in
+      let t : StatusesAt (after check old bs) q = status-of (after check old bs) q (r .stage) in
+      record {
+        counted = r .counted ∙ a .counted;
+        outcome = r .ends ∙ a .outcome;
+        flagByte = byte-is (y .flagByte) (after check old bs) q (a .byte) (r .stage);
+        bootStatus = t .boot ∙ ap gives (a .boot);
+        updateStatus = t .update ∙ ap gives (a .update);
+      }
+
+-- ---- the start
+
+top-update : (b : BootStatus) (u : UpdateStatus) (c : Closing update b u) → closingLeft c ≤ 3
+top-update b u c = closing-some c .1
+
+top-fallback : (b : BootStatus) (u : UpdateStatus) (c : Closing fallback b u) → closingLeft c ≤ 1
+top-fallback b u write-success = omega arith
+
+update-case : (check : Check) → ReadsFirmware check three → (bs : List ℕ) (y : Leaves) → Predicted update 3 21 bs y → Holds check (powerUps update bs y)
+update-case check R bs y a f r =
+    let G : Limits three = (shaped-of three f (r .fit)) .limits in
+    let I : Images update (check three (f .update)) (check three (f .boot))
+    = record { new = r .newVersion; old = r .oldVersion; updateGood = r .updateGood; bootGood = r .bootGood; newer = r .newer } in
+    let z : 9 * firmware three + 3 ≡ 21 = omega (arith, two) in
+    predicted check R f G from-success I (r .fit) top-update bs y
+    (subst (λ (n : ℕ). Stage three f from-success f 0 n) z (start check three G f from-success I (r .fit) R (r .bootIs) (r .updateIs) (r .flagsF)))
+    a
+
+fallback-case : (check : Check) → ReadsFirmware check three → (bs : List ℕ) (y : Leaves) → Predicted fallback 1 19 bs y → Holds check (powerUps fallback bs y)
+fallback-case check R bs y a f r =
+    let G : Limits three = (shaped-of three f (r .fit)) .limits in
+    let I : Images fallback (check three (f .update)) (check three (f .boot)) = record { version = r .version; good = r .updateGood } in
+    let z : 9 * firmware three + 1 ≡ 19 = omega (arith, two) in
+    predicted check R f G from-testing I (r .fit) top-fallback bs y
+    (subst (λ (n : ℕ). Stage three f from-testing f 0 n) z (start check three G f from-testing I (r .fit) R (r .bootIs) (r .updateIs) (r .flagsF)))
+    a
+
+-- ---- a flag byte
+
+abbrev shownBy : ℕ → Flags
+shownBy b = flagsShown (flagOf (b % 16) ∷ flagOf (b / 16) ∷ [])
+
+flags-by-byte : (u : List ℕ) (b : ℕ) → getD u 766 0 ≡ b → flagsAt three u ≡ shownBy b
+unfolding flagsAt flags flagsFrom flagAt flagByte half firmware
+flags-by-byte u b e = rw e refl
+
+not-11 : (o : Next) (v : Answer ℕ) → outcomeBy o Update v ≡ refusal 11 0 0 → ⊥
+not-11 Nothing (gives v) e = let z : _≡_ {A = ℕ} 0 1 = cc in omega arith
+not-11 Nothing (refused n p) e = let z : _≡_ {A = ℕ} 12 11 = cc in omega arith
+not-11 (Do o) v e = let z : _≡_ {A = ℕ} 0 1 = cc in omega arith
+
+-- an exchange that has begun
+abbrev Resumes : Flags → Type 0
+Resumes Malformed = ⊥
+Resumes AllF = ⊥
+Resumes (At i leg) = Unit {0}
+Resumes All0 = Unit {0}
+
+resumes-update : (v : Flags) (u b : Answer ℕ) → Resumes v → decideBy Success Updating v u b ≡ work Update noReason
+resumes-update Malformed u b h = absurd h
+resumes-update AllF u b h = absurd h
+resumes-update (At i leg) u b h = refl
+resumes-update All0 u b h = refl
+
+-- ---- the law of a case
+
+abbrev Agrees : ExchangeCase → Type 0
+Agrees (powerUps update bs y) = Predicted update 3 21 bs y
+Agrees (powerUps fallback bs y) = Predicted fallback 1 19 bs y
+Agrees (malformed b true) = shownBy b ≡ Malformed
+Agrees (malformed b false) = Resumes (shownBy b)
+
+law : (check : Check) → ReadsFirmware check three → (c : ExchangeCase) → Agrees c → Holds check c
+unfolding powerUp decide
+law check R (powerUps update bs y) a = update-case check R bs y a
+law check R (powerUps fallback bs y) a = fallback-case check R bs y a
+law check R (malformed b true) a = λ f budget fit e₁ e₂ e. rw (fit, e₁, e₂, flags-by-byte (f .update) b e ∙ a) refl
+law check R (malformed b false) a = λ f budget fit e₁ e₂ e k.
+    not-11 (nextOperation Update three ((run Update three budget 0 f) .place) ((run Update three budget 0 f) .flash)) (check three ((run Update three budget 0 f) .flash .boot))
+    (rw (fit, e₁, e₂, flags-by-byte (f .update) b e, resumes-update (shownBy b) (check three (f .update)) (check three (f .boot)) a) at k)
+
+-- the numbers are computed
+computed : (x : Exchange) (l r : ℕ) (bs : List ℕ) (y : Leaves) → going l r bs ≡ true → countsAfter l r bs ≡ y .counted → lastAfter x l r bs cut ≡ y .outcome
+    → ByteAgrees (y .flagByte) l (leftAfter l r bs) → bootLeft x (leftAfter l r bs) ≡ y .bootStatus → updateLeft x (leftAfter l r bs) ≡ y .updateStatus → Predicted x l r bs y
+computed x l r bs y a b c d e f = record { goes = a; counted = b; outcome = c; byte = d; boot = e; update = f }
+
+agreed : Every Agrees exchangeCases
+unfolding flagOf flagsShown pastZeros allF
+agreed =
+    (computed _ _ _ _ _ refl refl refl (omega arith, refl) refl refl, (computed _ _ _ _ _ refl refl refl (omega arith, refl) refl refl, (computed _ _ _ _ _ refl refl refl (omega arith, refl) refl refl, (computed _ _ _ _ _ refl refl refl (omega arith, refl) refl refl, (computed _ _ _ _ _ refl refl refl (omega arith, refl) refl refl, (computed _ _ _ _ _ refl refl refl (omega arith, refl) refl refl, (computed _ _ _ _ _ refl refl refl tt refl refl, (computed _ _ _ _ _ refl refl refl tt refl refl, (computed _ _ _ _ _ refl refl refl tt refl refl, (computed _ _ _ _ _ refl refl refl (omega arith, refl) refl refl, (computed _ _ _ _ _ refl refl refl tt refl refl, (refl, (tt, tt)))))))))))))
+
+pub marked-exchange : MarkedExchange
+marked-exchange check R = every Agrees (Holds check) (law check R) exchangeCases agreed

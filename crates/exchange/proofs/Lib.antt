@@ -1,0 +1,19 @@
+-- Laws of the rules, for the proofs of this crate and of those above it.
+-- The next operation; runs of steps
+pub mod Orders
+pub mod Runs
+-- demand 3, from the bottom up: what holds after each move of the flags; where an exchange stands, and its single step; a run of steps;
+-- what the checks decided at the start, and decide at each stage; one power-up; every list of them
+pub mod Sound
+pub mod Stage
+pub mod Walked
+pub mod Accepted
+pub mod Decided
+pub mod Played
+pub mod Whole
+pub mod Reached
+-- the marked cases 1 to 6; what the rules rule out; arm and confirm without power
+pub mod Every
+pub mod Cases
+pub mod RuledOut
+pub mod Commands

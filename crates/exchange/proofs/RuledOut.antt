@@ -1,0 +1,130 @@
+-- What the rules rule out.
+use mathlib.Core.Path.{_≡_, refl, ap, _∙_}
+use mathlib.Core.Logic.{_≢_}
+use mathlib.Core.Bool.{cond}
+use Prim.Native.Nat.{ℕ, _≤_}
+use Rattle.refusals.specs.Answer.{Answer, gives, refused}
+use Rattle.flash.specs.declared.Geometry.{Geometry}
+use Rattle.flash.specs.declared.SectorNumber.{SectorNumber}
+use Rattle.flash.specs.declared.BootStatus.{BootStatus}
+use Rattle.flash.specs.declared.BootStatus.the-variants.{New as BootNew, Testing, Success}
+use Rattle.flash.specs.declared.UpdateStatus.{UpdateStatus}
+use Rattle.flash.specs.declared.UpdateStatus.the-variants.{New as UpdateNew, Updating}
+use Rattle.flash.specs.declared.Leg.{Leg}
+use Rattle.flash.specs.declared.Flags.{Flags}
+use Rattle.flash.specs.declared.Flags.the-variants.{Malformed, AllF, At, All0}
+use Rattle.flash.specs.StatusBytes.{bootStatusAt, updateStatusAt}
+use Rattle.flash.specs.SectorFlags.{flagsAt}
+use Rattle.flash.specs.Buffers.{Flash, fits}
+use Rattle.exchange.specs.declared.Operation.the-variants.{Erase}
+use Rattle.exchange.specs.declared.Next.the-variants.{Do}
+use Rattle.exchange.specs.declared.Job.the-variants.{Update, TurnDown}
+use Rattle.exchange.specs.Operations.{target, perform}
+use Rattle.exchange.specs.Order.{nextOperation, Run, run}
+use Rattle.exchange.specs.Decision.{Check, Reason, because, noReason, Plan, refuse, work, accept, decideUpdate, decideFallback, decideBy, decideStatuses, decide}
+use Rattle.exchange.specs.PowerUp.{PowerUp, powerUp}
+use Rattle.exchange.specs.Demand.{Exchange, update, fallback, jobOf}
+use Rattle.exchange.specs.RuledOut.{Reads, Underway, from-new, from-success, from-testing, RuledOut}
+use Rattle.exchange.proofs.Orders.{next-by-reads}
+use Rattle.exchange.proofs.Runs.{run-some, power-up-works}
+use Rattle.exchange.proofs.Accepted.{not-newer, accepted}
+
+-- ---- by what is read
+
+reads-decide : (check : Check) (g : Geometry) (f : Flash) (b : BootStatus) (u : UpdateStatus) (v : Flags) → Reads g f b u v
+    → decide check g f ≡ decideBy b u v (check g (f .update)) (check g (f .boot))
+unfolding decide
+reads-decide check g f b u v r = rw (r .fit, r .boot, r .update, r .flags) refl
+
+all-F : (b : BootStatus) (y z : Answer ℕ) → Underway update b Updating → decideBy b Updating AllF y z ≡ accept y z
+all-F b y z from-new = refl
+all-F b y z from-success = refl
+
+reason-of : (check : Check) (g : Geometry) (f : Flash) (budget : ℕ) (why : Reason) → decide check g f ≡ work TurnDown why → (powerUp check g f budget) .reason ≡ why
+reason-of check g f budget why e = ap (λ (a : PowerUp). a .reason) (power-up-works check g f budget TurnDown why e)
+
+accept-bad : (y z : Answer ℕ) (n p : ℕ) → y ≡ refused n p → accept y z ≡ work TurnDown (because n p)
+accept-bad y z n p e = rw e refl
+
+accept-old : (y z : Answer ℕ) (v w : ℕ) → y ≡ gives v → z ≡ gives w → v ≤ w → accept y z ≡ work TurnDown (because 15 0)
+accept-old y z v w e k h = rw (e, k) (not-newer v w h)
+
+-- ---- no image check once a flag is not F
+
+update-unchecked : (v : Flags) (y z y′ z′ : Answer ℕ) → v ≢ AllF → decideUpdate v y z ≡ decideUpdate v y′ z′
+update-unchecked Malformed y z y′ z′ h = refl
+update-unchecked AllF y z y′ z′ h = absurd (h refl)
+update-unchecked (At i leg) y z y′ z′ h = refl
+update-unchecked All0 y z y′ z′ h = refl
+
+fallback-unchecked : (v : Flags) (y y′ : Answer ℕ) → v ≢ AllF → decideFallback v y ≡ decideFallback v y′
+fallback-unchecked Malformed y y′ h = refl
+fallback-unchecked AllF y y′ h = absurd (h refl)
+fallback-unchecked (At i leg) y y′ h = refl
+fallback-unchecked All0 y y′ h = refl
+
+unchecked-by : (b : BootStatus) (u : UpdateStatus) (v : Flags) (y z y′ z′ : Answer ℕ) → v ≢ AllF → decideBy b u v y z ≡ decideBy b u v y′ z′
+unchecked-by BootNew UpdateNew v y z y′ z′ h = refl
+unchecked-by Success UpdateNew v y z y′ z′ h = refl
+unchecked-by Testing UpdateNew v y z y′ z′ h = fallback-unchecked v y y′ h
+unchecked-by BootNew Updating v y z y′ z′ h = update-unchecked v y z y′ z′ h
+unchecked-by Success Updating v y z y′ z′ h = update-unchecked v y z y′ z′ h
+unchecked-by Testing Updating v y z y′ z′ h = refl
+
+unchecked-statuses : (b : Answer BootStatus) (u : Answer UpdateStatus) (v : Flags) (y z y′ z′ : Answer ℕ) → v ≢ AllF
+    → decideStatuses b u v y z ≡ decideStatuses b u v y′ z′
+unchecked-statuses (refused n p) u v y z y′ z′ h = refl
+unchecked-statuses (gives b) (refused n p) v y z y′ z′ h = refl
+unchecked-statuses (gives b) (gives u) v y z y′ z′ h = unchecked-by b u v y z y′ z′ h
+
+unchecked : (check check′ : Check) (g : Geometry) (f : Flash) → flagsAt g (f .update) ≢ AllF → decide check g f ≡ decide check′ g f
+unfolding decide
+unchecked check check′ g f h =
+    ap (λ (y : Plan). cond (fits g f) y (refuse 1 0 0))
+    (unchecked-statuses (bootStatusAt g (f .boot)) (updateStatusAt g (f .update)) (flagsAt g (f .update)) (check g (f .update)) (check g (f .boot))
+    (check′ g (f .update)) (check′ g (f .boot)) h)
+
+-- ---- all flags 0
+
+all-0-updates : (b : BootStatus) (y z : Answer ℕ) → decideBy b Updating All0 y z ≡ work Update noReason
+all-0-updates BootNew y z = refl
+all-0-updates Testing y z = refl
+all-0-updates Success y z = refl
+
+-- ---- the top of a leg
+
+resumes : (x : Exchange) (b : BootStatus) (u : UpdateStatus) (i : SectorNumber) (leg : Leg) (y z : Answer ℕ) → Underway x b u
+    → decideBy b u (At i leg) y z ≡ work (jobOf x) noReason
+resumes x b u i leg y z from-new = refl
+resumes x b u i leg y z from-success = refl
+resumes x b u i leg y z from-testing = refl
+
+erases-first : (x : Exchange) (g : Geometry) (f : Flash) (b : BootStatus) (u : UpdateStatus) (i : SectorNumber) (leg : Leg) → Underway x b u → Reads g f b u (At i leg)
+    → nextOperation (jobOf x) g 0 f ≡ Do (Erase (target leg) i)
+erases-first x g f b u i leg from-new r = next-by-reads (jobOf x) g 0 f b u (At i leg) (r .boot) (r .update) (r .flags)
+erases-first x g f b u i leg from-success r = next-by-reads (jobOf x) g 0 f b u (At i leg) (r .boot) (r .update) (r .flags)
+erases-first x g f b u i leg from-testing r = next-by-reads (jobOf x) g 0 f b u (At i leg) (r .boot) (r .update) (r .flags)
+
+top : (check : Check) (x : Exchange) (g : Geometry) (f : Flash) (b : BootStatus) (u : UpdateStatus) (i : SectorNumber) (leg : Leg) → Underway x b u
+    → Reads g f b u (At i leg) → (powerUp check g f 1) .flash ≡ perform g (Erase (target leg) i) f
+unfolding run
+top check x g f b u i leg w r =
+    ap (λ (a : PowerUp). a .flash) (power-up-works check g f 1 (jobOf x) noReason
+    (reads-decide check g f b u (At i leg) r ∙ resumes x b u i leg (check g (f .update)) (check g (f .boot)) w))
+    ∙ ap (λ (a : Run). a .flash) (run-some (jobOf x) g 0 0 f (Erase (target leg) i) (erases-first x g f b u i leg w r))
+
+pub ruled-out : RuledOut
+ruled-out = record {
+  updateNewer = λ check g f s. (accepted check update g f s) .images;
+  fallbackGood = λ check g f s. (accepted check fallback g f s) .images;
+  badKeepsReason = λ check g f b n p budget w r e.
+      reason-of check g f budget (because n p)
+      (reads-decide check g f b Updating AllF r ∙ all-F b (check g (f .update)) (check g (f .boot)) w ∙ accept-bad (check g (f .update)) (check g (f .boot)) n p e);
+  oldKeepsReason = λ check g f b v v′ budget w r e e′ h.
+      reason-of check g f budget (because 15 0)
+      (reads-decide check g f b Updating AllF r ∙ all-F b (check g (f .update)) (check g (f .boot)) w
+      ∙ accept-old (check g (f .update)) (check g (f .boot)) v v′ e e′ h);
+  uncheckedInside = unchecked;
+  notFailedTest = λ check g f b r. reads-decide check g f b Updating All0 r ∙ all-0-updates b (check g (f .update)) (check g (f .boot));
+  topOfLeg = top;
+}

@@ -1,0 +1,93 @@
+-- Document 01, "Power-up": the checks before the work, and what they decide.
+use mathlib.Core.Bool.{cond}
+use mathlib.Core.List.{List}
+use Prim.Native.Nat.{ℕ}
+use lib.Dec.{ltb}
+use Rattle.refusals.specs.Answer.{Answer, gives, refused}
+use Rattle.flash.specs.declared.Geometry.{Geometry}
+use Rattle.flash.specs.declared.BootStatus.{BootStatus}
+use Rattle.flash.specs.declared.BootStatus.the-variants.{New as BootNew, Testing, Success}
+use Rattle.flash.specs.declared.UpdateStatus.{UpdateStatus}
+use Rattle.flash.specs.declared.UpdateStatus.the-variants.{New as UpdateNew, Updating}
+use Rattle.flash.specs.declared.Flags.{Flags}
+use Rattle.flash.specs.declared.Flags.the-variants.{Malformed, AllF, At, All0}
+use Rattle.flash.specs.StatusBytes.{bootStatusAt, updateStatusAt}
+use Rattle.flash.specs.SectorFlags.{flagsAt}
+use Rattle.flash.specs.Buffers.{Flash, fits}
+use Rattle.exchange.specs.declared.Job.{Job}
+use Rattle.exchange.specs.declared.Job.the-variants.{Update, Fallback, TurnDown}
+
+-- The image check, as the rules use it: a partition's version, or the refusal of its image.
+abbrev pub Check : Type 0
+Check = Geometry → List ℕ → Answer ℕ
+
+-- Why an update was turned down: a number and its place; 0 and 0 where there is none.
+pub record Reason : Type 0 where
+  pub number : ℕ
+  pub place : ℕ
+
+abbrev pub because : ℕ → ℕ → Reason
+because n p = record { number = n; place = p }
+
+abbrev pub noReason : Reason
+noReason = because 0 0
+
+-- What is decided: a refusal (number, and the number and place of a bad image within it), Plain, or a job with its reason.
+pub data Plan : Type 0 where
+  refuse : ℕ → ℕ → ℕ → Plan
+  plain : Plan
+  work : Job → Reason → Plan
+
+-- An update with all flags F, by the checks of UPDATE and of BOOT, UPDATE's first: a bad UPDATE is turned down with its own number,
+-- a bad BOOT is 12; then a version that is not greater than BOOT's is turned down with 15.
+abbrev pub accept : Answer ℕ → Answer ℕ → Plan
+accept (refused n p) b = work TurnDown (because n p)
+accept (gives v) (refused n p) = refuse 12 n p
+accept (gives v) (gives w) = cond (ltb w v) (work Update noReason) (work TurnDown (because 15 0))
+
+-- A fallback with all flags F, by the check of UPDATE: a bad one is 13.
+abbrev pub acceptFallback : Answer ℕ → Plan
+acceptFallback (refused n p) = refuse 13 n p
+acceptFallback (gives v) = work Fallback noReason
+
+-- By the flags. Only with all flags F are images checked before the work; an exchange that has begun goes on unchecked.
+abbrev pub decideUpdate : Flags → Answer ℕ → Answer ℕ → Plan
+decideUpdate Malformed u b = refuse 11 0 0
+decideUpdate AllF u b = accept u b
+decideUpdate (At i leg) u b = work Update noReason
+decideUpdate All0 u b = work Update noReason
+
+abbrev pub decideFallback : Flags → Answer ℕ → Plan
+decideFallback Malformed u = refuse 11 0 0
+decideFallback AllF u = acceptFallback u
+decideFallback (At i leg) u = work Fallback noReason
+decideFallback All0 u = work Fallback noReason
+
+-- With both UPDATING and TESTING only the end of an update can be left: flags that are not all 0 are 11.
+abbrev pub decideClosing : Flags → Plan
+decideClosing Malformed = refuse 11 0 0
+decideClosing AllF = refuse 11 0 0
+decideClosing (At i leg) = refuse 11 0 0
+decideClosing All0 = work Update noReason
+
+-- By BOOT's and UPDATE's status. Where UPDATE is NEW and BOOT is not TESTING the flags are not read.
+abbrev pub decideBy : BootStatus → UpdateStatus → Flags → Answer ℕ → Answer ℕ → Plan
+decideBy BootNew UpdateNew flags u b = plain
+decideBy Success UpdateNew flags u b = plain
+decideBy Testing UpdateNew flags u b = decideFallback flags u
+decideBy BootNew Updating flags u b = decideUpdate flags u b
+decideBy Success Updating flags u b = decideUpdate flags u b
+decideBy Testing Updating flags u b = decideClosing flags
+
+-- A status byte that is not allowed there is its own refusal, BOOT's first.
+abbrev pub decideStatuses : Answer BootStatus → Answer UpdateStatus → Flags → Answer ℕ → Answer ℕ → Plan
+decideStatuses (refused n p) us flags u b = refuse n 0 0
+decideStatuses (gives bs) (refused n p) flags u b = refuse n 0 0
+decideStatuses (gives bs) (gives us) flags u b = decideBy bs us flags u b
+
+-- Geometry and lengths first.
+unfoldable pub decide : Check → Geometry → Flash → Plan
+decide check g f =
+    cond (fits g f)
+    (decideStatuses (bootStatusAt g (f .boot)) (updateStatusAt g (f .update)) (flagsAt g (f .update)) (check g (f .update)) (check g (f .boot)))
+    (refuse 1 0 0)

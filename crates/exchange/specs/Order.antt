@@ -1,0 +1,85 @@
+-- Document 01, "Power-up": the one operation that is next, found by reading the status bytes and the flags.
+use Prim.Native.Nat.{ℕ, zero, suc}
+use mathlib.Core.List.{List}
+use Rattle.refusals.specs.Answer.{Answer, gives, refused}
+use Rattle.flash.specs.declared.Geometry.{Geometry}
+use Rattle.flash.specs.declared.BootStatus.{BootStatus}
+use Rattle.flash.specs.declared.BootStatus.the-variants.{New as BootNew, Testing, Success}
+use Rattle.flash.specs.declared.UpdateStatus.{UpdateStatus}
+use Rattle.flash.specs.declared.UpdateStatus.the-variants.{New as UpdateNew, Updating}
+use Rattle.flash.specs.declared.Flags.{Flags}
+use Rattle.flash.specs.declared.Flags.the-variants.{Malformed, AllF, At, All0}
+use Rattle.flash.specs.declared.Leg.the-variants.{UpdateToSwap}
+use Rattle.flash.specs.Sectors.{sectorNumber}
+use Rattle.flash.specs.StatusBytes.{bootStatusAt, updateStatusAt}
+use Rattle.flash.specs.SectorFlags.{flagsAt}
+use Rattle.flash.specs.Buffers.{Flash}
+use Rattle.exchange.specs.declared.Operation.{Operation}
+use Rattle.exchange.specs.declared.Operation.the-variants.{EraseBootTrailer, EraseUpdateTrailer, WriteBootStatus}
+use Rattle.exchange.specs.declared.Next.{Next}
+use Rattle.exchange.specs.declared.Next.the-variants.{Do, Nothing}
+use Rattle.exchange.specs.declared.Job.{Job}
+use Rattle.exchange.specs.declared.Job.the-variants.{Update, Fallback, TurnDown}
+use Rattle.exchange.specs.Operations.{legOperation, placeAfter, perform}
+
+-- When all flags of an update are 0: what BOOT's status shows as done is not repeated.
+abbrev pub closing : BootStatus → Operation
+closing Success = EraseBootTrailer
+closing BootNew = WriteBootStatus Testing
+closing Testing = EraseUpdateTrailer
+
+-- The leg of the first sector whose flag is not 0, at a place (0, 1, 2) within the leg; `last` when all flags are 0.
+abbrev pub exchangeNext : ℕ → Flags → Operation → Next
+exchangeNext p AllF last = Do (legOperation UpdateToSwap p (sectorNumber 0))
+exchangeNext p (At i leg) last = Do (legOperation leg p i)
+exchangeNext p All0 last = Do last
+exchangeNext p Malformed last = Nothing
+
+-- An update and a turning down are done once UPDATE is NEW, a fallback once BOOT is not TESTING.
+abbrev pub ordered : Job → ℕ → BootStatus → UpdateStatus → Flags → Next
+ordered Update p b Updating flags = exchangeNext p flags (closing b)
+ordered Update p b UpdateNew flags = Nothing
+ordered Fallback p Testing u flags = exchangeNext p flags (WriteBootStatus Success)
+ordered Fallback p BootNew u flags = Nothing
+ordered Fallback p Success u flags = Nothing
+ordered TurnDown p b Updating flags = Do EraseUpdateTrailer
+ordered TurnDown p b UpdateNew flags = Nothing
+
+-- A status byte that is not allowed orders nothing.
+abbrev pub orderedBy : Job → ℕ → Answer BootStatus → Answer UpdateStatus → Flags → Next
+orderedBy job p (gives b) (gives u) flags = ordered job p b u flags
+orderedBy job p (gives b) (refused n q) flags = Nothing
+orderedBy job p (refused n q) u flags = Nothing
+
+-- The next operation, by the bytes alone: nothing is remembered but the place within the leg.
+unfoldable pub nextOperation : Job → Geometry → ℕ → Flash → Next
+nextOperation job g p f = orderedBy job p (bootStatusAt g (f .boot)) (updateStatusAt g (f .update)) (flagsAt g (f .update))
+
+-- The single step: the next operation, and the flash after it.
+pub record Step : Type 0 where
+  pub next : Next
+  pub flash : Flash
+
+abbrev pub performNext : Geometry → Next → Flash → Flash
+performNext g Nothing f = f
+performNext g (Do o) f = perform g o f
+
+unfoldable pub step : Job → Geometry → ℕ → Flash → Step
+step job g p f = record { next = nextOperation job g p f; flash = performNext g (nextOperation job g p f) f }
+
+-- At most k steps, from a place within a leg: how many were done, the place and the flash after them.
+pub record Run : Type 0 where
+  pub count : ℕ
+  pub place : ℕ
+  pub flash : Flash
+
+abbrev pub oneMore : Run → Run
+oneMore r = record { count = suc (r .count); place = r .place; flash = r .flash }
+
+abbrev pub runBy : Next → ℕ → Flash → (Operation → Run) → Run
+runBy Nothing p f rest = record { count = 0; place = p; flash = f }
+runBy (Do o) p f rest = oneMore (rest o)
+
+unfoldable pub run : Job → Geometry → ℕ → ℕ → Flash → Run
+run job g zero p f = record { count = 0; place = p; flash = f }
+run job g (suc k) p f = runBy (nextOperation job g p f) p f (λ o. run job g k (placeAfter o) (perform g o f))

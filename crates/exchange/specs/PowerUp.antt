@@ -1,0 +1,73 @@
+-- Document 01, "Power-up": the call with a budget, made only of repeating the single step.
+use mathlib.Core.List.{List}
+use Prim.Native.Nat.{ℕ}
+use Rattle.refusals.specs.Answer.{Answer, gives, refused}
+use Rattle.flash.specs.declared.Geometry.{Geometry}
+use Rattle.flash.specs.Buffers.{Flash}
+use Rattle.exchange.specs.declared.Next.{Next}
+use Rattle.exchange.specs.declared.Next.the-variants.{Do, Nothing}
+use Rattle.exchange.specs.declared.Job.{Job}
+use Rattle.exchange.specs.declared.Job.the-variants.{Update, Fallback, TurnDown}
+use Rattle.exchange.specs.Order.{nextOperation, Run, run}
+use Rattle.exchange.specs.Decision.{Check, Reason, noReason, Plan, refuse, plain, work, decide}
+
+-- The outcomes: a refusal (number, inner number, inner place), "cut", "run", "run on test", "run, fallen back".
+pub data Outcome : Type 0 where
+  refusal : ℕ → ℕ → ℕ → Outcome
+  cut : Outcome
+  runs : Outcome
+  runsOnTest : Outcome
+  runsFallenBack : Outcome
+
+-- What a power-up answers and leaves.
+pub record PowerUp : Type 0 where
+  pub outcome : Outcome
+  pub reason : Reason
+  pub count : ℕ
+  pub flash : Flash
+
+-- Before anything is run BOOT is checked: bad is 12, with its own number and place.
+abbrev pub ifBootGood : Outcome → Answer ℕ → Outcome
+ifBootGood o (gives v) = o
+ifBootGood o (refused n p) = refusal 12 n p
+
+-- The outcome of a job that is done.
+abbrev pub doneOutcome : Job → Outcome
+doneOutcome Update = runsOnTest
+doneOutcome Fallback = runsFallenBack
+doneOutcome TurnDown = runs
+
+-- An operation that is still ordered when the budget is used up gives "cut"; else BOOT is checked. Checks cost no budget.
+abbrev pub outcomeBy : Next → Job → Answer ℕ → Outcome
+outcomeBy (Do o) job boot = cut
+outcomeBy Nothing job boot = ifBootGood (doneOutcome job) boot
+
+abbrev pub worked : Check → Geometry → Job → Reason → Run → PowerUp
+worked check g job reason r =
+    record {
+      outcome = outcomeBy (nextOperation job g (r .place) (r .flash)) job (check g (r .flash .boot));
+      reason = reason;
+      count = r .count;
+      flash = r .flash;
+    }
+
+abbrev pub idle : Outcome → Flash → PowerUp
+idle o f = record { outcome = o; reason = noReason; count = 0; flash = f }
+
+-- Each power-up starts at the top of a leg, place 0.
+abbrev pub carryOut : Check → Geometry → Flash → ℕ → Plan → PowerUp
+carryOut check g f budget (refuse n i p) = idle (refusal n i p) f
+carryOut check g f budget plain = idle (ifBootGood runs (check g (f .boot))) f
+carryOut check g f budget (work job reason) = worked check g job reason (run job g budget 0 f)
+
+unfoldable pub powerUp : Check → Geometry → Flash → ℕ → PowerUp
+powerUp check g f budget = carryOut check g f budget (decide check g f)
+
+-- The operation that the same call orders after its first k, if any: the one that a loss of power may tear.
+abbrev pub nextIn : Geometry → Flash → ℕ → Plan → Next
+nextIn g f k (refuse n i p) = Nothing
+nextIn g f k plain = Nothing
+nextIn g f k (work job reason) = nextOperation job g ((run job g k 0 f) .place) ((run job g k 0 f) .flash)
+
+unfoldable pub nextAfter : Check → Geometry → Flash → ℕ → Next
+nextAfter check g f k = nextIn g f k (decide check g f)

@@ -1,0 +1,36 @@
+-- Demand 3 speaks of something: from every start there is a list that 01 allows, with a refused power-up and a torn copy, that comes to
+-- the finish.
+use mathlib.Core.Path.{_≡_}
+use mathlib.Core.List.{List, [], _∷_}
+use Prim.Native.Nat.{ℕ, _+_, _≤_}
+use lib.ListN.{length}
+use Rattle.flash.specs.declared.Geometry.{Geometry}
+use Rattle.flash.specs.declared.Leg.the-variants.{UpdateToSwap}
+use Rattle.flash.specs.Sizes.{geometry, firmware}
+use Rattle.flash.specs.Sectors.{sectorNumber}
+use Rattle.flash.specs.Buffers.{Flash}
+use Rattle.exchange.specs.declared.Operation.the-variants.{Copy}
+use Rattle.exchange.specs.declared.Next.the-variants.{Do}
+use Rattle.exchange.specs.Decision.{Check}
+use Rattle.exchange.specs.PowerUp.{refusal, powerUp, nextAfter}
+use Rattle.exchange.specs.LostPower.{Torn}
+use Rattle.exchange.specs.Demand.{Exchange, ReadsFirmware, Starts, Finished, untorn, lost, Event, Allowed, flashAfter, most}
+
+-- A power-up with a geometry of no sectors, one that loses power after its first operation, and one that nothing disturbs.
+abbrev pub roughList : Geometry → Torn → ℕ → List Event
+roughList g t budget =
+    record { geometry = geometry 0 0; budget = budget; ending = untorn }
+    ∷ record { geometry = g; budget = budget; ending = lost 1 t }
+    ∷ record { geometry = g; budget = budget; ending = untorn }
+    ∷ []
+
+pub record Reached (check : Check) (x : Exchange) (g : Geometry) (f : Flash) (t : Torn) (budget : ℕ) : Type 0 where
+  pub firstRefused : (powerUp check (geometry 0 0) f budget) .outcome ≡ refusal 1 0 0
+  pub copyTorn : nextAfter check g f 1 ≡ Do (Copy UpdateToSwap (sectorNumber 0))
+  pub allowed : Allowed check x g f (roughList g t budget)
+  pub finished : Finished x g (flashAfter check f (roughList g t budget))
+
+abbrev pub FinishReached : Type 0
+FinishReached =
+    (check : Check) (x : Exchange) (g : Geometry) (f : Flash) → ReadsFirmware check g → Starts check x g f → (t : Torn) → length (t .bytes) ≡ g .size
+    → (budget : ℕ) → most x (firmware g) + 2 ≤ budget → Reached check x g f t budget

@@ -1,0 +1,152 @@
+-- What the image check and the reading of the statuses say, for the rules.
+use mathlib.Core.Path.{_≡_, refl, sym, ap, _∙_}
+use mathlib.Core.List.{List}
+use Prim.Native.Nat.{ℕ}
+use Rattle.refusals.specs.Answer.{Answer, gives, refused, then}
+use Rattle.header.specs.declared.Header.{Header}
+use Rattle.header.specs.declared.HeaderOutcome.{HeaderOutcome}
+use Rattle.header.specs.declared.HeaderOutcome.the-variants.{Accepted, TooShort, WrongMagic, ZeroSize, TagDoesNotFit, WrongLength, Repeated, NoEnd, Missing}
+use Rattle.header.specs.Reading as header
+use Rattle.flash.specs.declared.Geometry.{Geometry}
+use Rattle.flash.specs.declared.BootStatus.{BootStatus}
+use Rattle.flash.specs.declared.BootStatus.the-variants.{New as BootNew, Testing, Success}
+use Rattle.flash.specs.declared.UpdateStatus.{UpdateStatus}
+use Rattle.flash.specs.declared.UpdateStatus.the-variants.{Updating}
+use Rattle.flash.specs.declared.Flags.{Flags}
+use Rattle.flash.specs.Sectors.{firmwareOf}
+use Rattle.flash.specs.StatusBytes.{bootStatusAt, updateStatusAt}
+use Rattle.image.specs.declared.ImageAnswer.{ImageAnswer}
+use Rattle.image.specs.declared.ImageOutcome.{ImageOutcome}
+use Rattle.image.specs.declared.ImageOutcome.the-variants.{Good as GoodImage, OutsideRules, BadHeader, TooLarge, WrongDigest}
+use Rattle.image.specs.Check.{answerOf, imageIn, Checks}
+use Rattle.exchange.specs.declared.Job.{Job}
+use Rattle.exchange.specs.declared.Next.{Next}
+use Rattle.exchange.specs.declared.Next.the-variants.{Nothing}
+use Rattle.exchange.specs.Order.{ordered, orderedBy}
+use Rattle.exchange.specs.Decision.{Plan, refuse, decideBy, decideStatuses}
+use Rattle.exchange.specs.Commands.{withStatuses, mayArm, mayConfirm}
+use Rattle.loader.specs.declared.reading.Verdict.the-variants.{Bad}
+use Rattle.loader.specs.declared.reading.Statuses.{Statuses}
+use Rattle.loader.specs.declared.reading.Statuses.the-variants.{Allowed, NotAllowed}
+use Rattle.loader.specs.Loader.{checkOf}
+use Rattle.loader.specs.Parts.{verdictOf, statusesOf, bothStatuses}
+
+-- ---- the image check
+
+pub bad-header : (h : HeaderOutcome) (v : ℕ) → (h ≡ Accepted → ⊥) → verdictOf (Bad (BadHeader h)) ≡ answerOf (BadHeader h) v
+bad-header Accepted v x = absurd (x refl)
+bad-header TooShort v x = refl
+bad-header WrongMagic v x = refl
+bad-header ZeroSize v x = refl
+bad-header (TagDoesNotFit p) v x = refl
+bad-header (WrongLength p) v x = refl
+bad-header (Repeated p) v x = refl
+bad-header (NoEnd p) v x = refl
+bad-header (Missing t) v x = refl
+
+abbrev version : Header → Answer ℕ
+version h = gives (h .version)
+
+header-version : (o : HeaderOutcome) (h : Header) → header.answerOf o (h .version) ≡ then (header.answerOf o h) version
+header-version Accepted h = refl
+header-version TooShort h = refl
+header-version WrongMagic h = refl
+header-version ZeroSize h = refl
+header-version (TagDoesNotFit p) h = refl
+header-version (WrongLength p) h = refl
+header-version (Repeated p) h = refl
+header-version (NoEnd p) h = refl
+header-version (Missing t) h = refl
+
+image-version : (o : ImageOutcome) (h : Header) → answerOf o (h .version) ≡ then (answerOf o h) version
+image-version GoodImage h = refl
+image-version OutsideRules h = refl
+image-version (BadHeader o) h = header-version o h
+image-version TooLarge h = refl
+image-version WrongDigest h = refl
+
+-- the check of the firmware part, with its version alone
+pub checked : (g : Geometry) (l b : List ℕ) (r : ImageAnswer) → b ≡ firmwareOf g l → Checks (imageIn b) r → answerOf (r .outcome) (r .header .version) ≡ checkOf g l
+unfolding checkOf
+checked g l b r e k =
+    image-version (r .outcome) (r .header)
+    ∙ ap (λ (a : Answer Header). then a version) (k .outcome)
+    ∙ ap (λ (x : List ℕ). then (imageIn x) version) e
+
+-- the check reads the firmware sectors alone
+pub check-reads-firmware : (g : Geometry) (l l′ : List ℕ) → firmwareOf g l ≡ firmwareOf g l′ → checkOf g l ≡ checkOf g l′
+unfolding checkOf
+check-reads-firmware g l l′ e = ap (λ (x : List ℕ). then (imageIn x) version) e
+
+-- ---- the statuses
+
+-- the rules, by both statuses at once
+abbrev ordering : Job → ℕ → Flags → Answer (BootStatus × UpdateStatus) → Next
+ordering job p flags (gives s) = ordered job p (s .0) (s .1) flags
+ordering job p flags (refused n q) = Nothing
+
+ordered-both : (job : Job) (p : ℕ) (B : Answer BootStatus) (U : Answer UpdateStatus) (flags : Flags) → orderedBy job p B U flags ≡ ordering job p flags (bothStatuses B U)
+ordered-both job p (gives b) (gives u) flags = refl
+ordered-both job p (gives b) (refused n q) flags = refl
+ordered-both job p (refused n q) U flags = refl
+
+abbrev deciding : Flags → Answer ℕ → Answer ℕ → Answer (BootStatus × UpdateStatus) → Plan
+deciding flags u b (gives s) = decideBy (s .0) (s .1) flags u b
+deciding flags u b (refused n q) = refuse n 0 0
+
+decide-both : (B : Answer BootStatus) (U : Answer UpdateStatus) (flags : Flags) (u b : Answer ℕ) → decideStatuses B U flags u b ≡ deciding flags u b (bothStatuses B U)
+decide-both (gives x) (gives y) flags u b = refl
+decide-both (gives x) (refused n q) flags u b = refl
+decide-both (refused n q) U flags u b = refl
+
+abbrev permitting : (BootStatus → UpdateStatus → Answer (Unit {0})) → Answer (BootStatus × UpdateStatus) → Answer (Unit {0})
+permitting rest (gives s) = rest (s .0) (s .1)
+permitting rest (refused n q) = refused n q
+
+permit-both : (B : Answer BootStatus) (U : Answer UpdateStatus) (rest : BootStatus → UpdateStatus → Answer (Unit {0})) → withStatuses B U rest ≡ permitting rest (bothStatuses B U)
+permit-both (gives b) (gives u) rest = refl
+permit-both (gives b) (refused n q) rest = refl
+permit-both (refused n q) U rest = refl
+
+-- the rules, by what the code read
+module _ (g : Geometry) (l k : List ℕ) (s : Statuses) (e : statusesOf s ≡ bothStatuses (bootStatusAt g l) (updateStatusAt g k)) where
+  read : (t : Statuses) → s ≡ t → bothStatuses (bootStatusAt g l) (updateStatusAt g k) ≡ statusesOf t
+  read t q = sym e ∙ ap (λ (x : Statuses). statusesOf x) q
+
+  pub ordered-allowed : (job : Job) (p : ℕ) (flags : Flags) (b : BootStatus) (u : UpdateStatus) → s ≡ Allowed b u
+      → orderedBy job p (bootStatusAt g l) (updateStatusAt g k) flags ≡ ordered job p b u flags
+  ordered-allowed job p flags b u q =
+      ordered-both job p (bootStatusAt g l) (updateStatusAt g k) flags ∙ ap (ordering job p flags) (read (Allowed b u) q)
+
+  pub ordered-not : (job : Job) (p : ℕ) (flags : Flags) → s ≡ NotAllowed → orderedBy job p (bootStatusAt g l) (updateStatusAt g k) flags ≡ Nothing
+  ordered-not job p flags q =
+      ordered-both job p (bootStatusAt g l) (updateStatusAt g k) flags ∙ ap (ordering job p flags) (read NotAllowed q)
+
+  pub decide-allowed : (flags : Flags) (x y : Answer ℕ) (b : BootStatus) (u : UpdateStatus) → s ≡ Allowed b u
+      → decideStatuses (bootStatusAt g l) (updateStatusAt g k) flags x y ≡ decideBy b u flags x y
+  decide-allowed flags x y b u q =
+      decide-both (bootStatusAt g l) (updateStatusAt g k) flags x y ∙ ap (deciding flags x y) (read (Allowed b u) q)
+
+  pub decide-not : (flags : Flags) (x y : Answer ℕ) → s ≡ NotAllowed → decideStatuses (bootStatusAt g l) (updateStatusAt g k) flags x y ≡ refuse 10 0 0
+  decide-not flags x y q =
+      decide-both (bootStatusAt g l) (updateStatusAt g k) flags x y ∙ ap (deciding flags x y) (read NotAllowed q)
+
+  pub permit-allowed : (rest : BootStatus → UpdateStatus → Answer (Unit {0})) (b : BootStatus) (u : UpdateStatus) → s ≡ Allowed b u
+      → withStatuses (bootStatusAt g l) (updateStatusAt g k) rest ≡ rest b u
+  permit-allowed rest b u q =
+      permit-both (bootStatusAt g l) (updateStatusAt g k) rest ∙ ap (permitting rest) (read (Allowed b u) q)
+
+  pub permit-not : (rest : BootStatus → UpdateStatus → Answer (Unit {0})) → s ≡ NotAllowed
+      → withStatuses (bootStatusAt g l) (updateStatusAt g k) rest ≡ refused 10 0
+  permit-not rest q = permit-both (bootStatusAt g l) (updateStatusAt g k) rest ∙ ap (permitting rest) (read NotAllowed q)
+
+-- an update that is armed is the wrong time for both commands
+pub arm-updating : (b : BootStatus) → mayArm b Updating ≡ refused 14 0
+arm-updating BootNew = refl
+arm-updating Testing = refl
+arm-updating Success = refl
+
+pub confirm-updating : (flags : Flags) (b : BootStatus) → mayConfirm flags b Updating ≡ refused 14 0
+confirm-updating flags BootNew = refl
+confirm-updating flags Testing = refl
+confirm-updating flags Success = refl

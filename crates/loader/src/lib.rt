@@ -1,0 +1,273 @@
+// Power-up, arm and confirm on three lent buffers: BOOT, UPDATE and SWAP.
+mod decision;
+mod reading;
+mod steps;
+
+use decision::Permit;
+use decision::Plan;
+use exchange::Job;
+use exchange::Next;
+use exchange::Operation;
+use flash::BootStatus;
+use flash::Geometry;
+use flash::GeometryAnswer;
+use flash::UpdateStatus;
+use image::ImageOutcome;
+use reading::Verdict;
+ghost use mathlib.Core.Path.{_≡_};
+ghost use Rattle.flash.specs.Sizes.{geometry};
+ghost use Rattle.flash.specs.Sectors.{Partition};
+ghost use Rattle.flash.specs.StatusBytes.{bootStatusAt, updateStatusAt};
+ghost use Rattle.flash.specs.SectorFlags.{flagsAt};
+ghost use Rattle.flash.specs.Buffers.{flash, Shaped};
+ghost use Rattle.exchange.specs.Order.{orderedBy, run};
+ghost use Rattle.exchange.specs.PowerUp.{ifBootGood, doneOutcome, outcomeBy, worked, carryOut, powerUp};
+ghost use Rattle.exchange.specs.Commands.{command, armOperations, arm, confirmOperations, confirm};
+ghost use Rattle.loader.specs.Loader.{checkOf, outcomeOf, reasonOf, answered, commanded};
+ghost use Rattle.loader.specs.Parts.{planOf, permitOf, idleAnswer};
+
+// Why a power-up is refused.
+pub enum Refusal {
+    // Geometry or a length outside the rules.
+    OutsideRules,
+    // A status byte that BOOT or UPDATE may not hold.
+    StatusNotAllowed,
+    FlagsMalformed,
+    // The image in BOOT is bad.
+    BadBoot(ImageOutcome),
+    // The image in UPDATE, to fall back to, is bad.
+    NoFallback(ImageOutcome),
+}
+
+// Why an update was turned down.
+pub enum Reason {
+    // None was.
+    None,
+    BadUpdate(ImageOutcome),
+    NotNewer,
+}
+
+// Document 01's "cut", "run", "run on test" and "run, fallen back", or a refusal.
+pub enum Outcome {
+    Refused(Refusal),
+    Cut,
+    Run,
+    RunOnTest,
+    RunFallenBack,
+}
+
+// The count is that of the operations done.
+pub struct PowerUpAnswer {
+    pub outcome: Outcome,
+    pub reason: Reason,
+    pub count: u64,
+}
+
+// Why arm or confirm is refused.
+pub enum CommandRefusal {
+    OutsideRules,
+    StatusNotAllowed,
+    FlagsMalformed,
+    WrongTime,
+}
+
+// What arm and confirm answer: done, with the number of operations, or refused.
+pub enum CommandAnswer {
+    Done(u64),
+    Refused(CommandRefusal),
+}
+
+// ---- power-up
+
+// An answer without operations.
+fn idle(outcome: Outcome) -> PowerUpAnswer
+    ensures { λ r. ⌜ r ≡ idleAnswer outcome ⌝ }
+{
+    PowerUpAnswer {
+        outcome,
+        reason: Reason::None,
+        count: 0,
+    }
+}
+
+// The outcome, or the refusal of a bad image in BOOT.
+fn if_boot_good(g: Geometry, outcome: Outcome, boot: &[u8]) -> Outcome
+    requires { ⌜ Partition g (now boot) ⌝ }
+    ensures { λ r. ⌜ outcomeOf r ≡ ifBootGood (outcomeOf outcome) (checkOf g (now (boot .entry))) ⌝ }
+{
+    match reading::check_image(g, boot) {
+        Verdict::Good(_) => outcome,
+        Verdict::Bad(o) => Outcome::Refused(Refusal::BadBoot(o)),
+    }
+}
+
+// The outcome of a job that is done.
+fn done_outcome(job: Job) -> Outcome
+    ensures { λ r. ⌜ outcomeOf r ≡ doneOutcome job ⌝ }
+{
+    match job {
+        Job::Update => Outcome::RunOnTest,
+        Job::Fallback => Outcome::RunFallenBack,
+        Job::TurnDown => Outcome::Run,
+    }
+}
+
+// The outcome of a job whose steps have come to a place: "cut" where one more is ordered.
+fn outcome_at(g: Geometry, job: Job, place: u8, boot: &[u8], update: &[u8]) -> Outcome
+    requires { ⌜ (Partition g (now boot)) × (Partition g (now update)) ⌝ }
+    ensures { λ r. ⌜ outcomeOf r ≡ outcomeBy (orderedBy job place (bootStatusAt g (now (boot .entry))) (updateStatusAt g (now (update .entry))) (flagsAt g (now (update .entry)))) job (checkOf g (now (boot .entry))) ⌝ }
+{
+    match steps::find_next(g, job, place, boot, update) {
+        Next::Do(_) => Outcome::Cut,
+        Next::Nothing => if_boot_good(g, done_outcome(job), boot),
+    }
+}
+
+fn do_job(
+    g: Geometry,
+    job: Job,
+    reason: Reason,
+    boot: &mut [u8],
+    update: &mut [u8],
+    swap: &mut [u8],
+    budget: u64,
+) -> PowerUpAnswer
+    requires { ⌜ Shaped g (flash (now boot) (now update) (now swap)) ⌝ }
+    ensures { λ r. ⌜ answered r (flash (now (boot .exit)) (now (update .exit)) (now (swap .exit))) ≡ worked checkOf g job (reasonOf reason) (run job g budget 0 (flash (now (boot .entry)) (now (update .entry)) (now (swap .entry)))) ⌝ }
+{
+    let ran = steps::run(g, job, boot, update, swap, budget);
+    PowerUpAnswer {
+        outcome: outcome_at(g, job, ran.place, boot, update),
+        reason,
+        count: ran.count,
+    }
+}
+
+fn carry_out(
+    g: Geometry,
+    plan: Plan,
+    boot: &mut [u8],
+    update: &mut [u8],
+    swap: &mut [u8],
+    budget: u64,
+) -> PowerUpAnswer
+    requires { ⌜ Shaped g (flash (now boot) (now update) (now swap)) ⌝ }
+    ensures { λ r. ⌜ answered r (flash (now (boot .exit)) (now (update .exit)) (now (swap .exit))) ≡ carryOut checkOf g (flash (now (boot .entry)) (now (update .entry)) (now (swap .entry))) budget (planOf plan) ⌝ }
+{
+    match plan {
+        Plan::Refuse(refusal) => idle(Outcome::Refused(refusal)),
+        Plan::Plain => idle(if_boot_good(g, Outcome::Run, boot)),
+        Plan::Work(job, reason) => do_job(g, job, reason, boot, update, swap, budget),
+    }
+}
+
+// A power-up with at most `budget` operations. Any numbers, lengths and bytes are taken.
+pub fn power_up(
+    sectors: usize,
+    size: usize,
+    boot: &mut [u8],
+    update: &mut [u8],
+    swap: &mut [u8],
+    budget: u64,
+) -> PowerUpAnswer
+    ensures { λ r. ⌜ answered r (flash (now (boot .exit)) (now (update .exit)) (now (swap .exit))) ≡ powerUp checkOf (geometry sectors size) (flash (now (boot .entry)) (now (update .entry)) (now (swap .entry))) budget ⌝ }
+{
+    match flash::check_flash(sectors, size, boot, update, swap) {
+        GeometryAnswer::Fits(g) => {
+            let plan = decision::decide(g, boot, update);
+            carry_out(g, plan, boot, update, swap, budget)
+        }
+        GeometryAnswer::Outside => idle(Outcome::Refused(Refusal::OutsideRules)),
+    }
+}
+
+// ---- arm and confirm
+
+fn arm_if(
+    g: Geometry,
+    permit: Permit,
+    boot: &mut [u8],
+    update: &mut [u8],
+    swap: &mut [u8],
+) -> CommandAnswer
+    requires { ⌜ Shaped g (flash (now boot) (now update) (now swap)) ⌝ }
+    ensures { λ r. ⌜ commanded r (flash (now (boot .exit)) (now (update .exit)) (now (swap .exit))) ≡ command g armOperations (permitOf permit) (flash (now (boot .entry)) (now (update .entry)) (now (swap .entry))) ⌝ }
+{
+    match permit {
+        Permit::Granted => {
+            steps::perform(g, Operation::EraseUpdateTrailer, boot, update, swap);
+            steps::perform(
+                g,
+                Operation::WriteUpdateStatus(UpdateStatus::Updating),
+                boot,
+                update,
+                swap,
+            );
+            CommandAnswer::Done(2)
+        }
+        Permit::Denied(refusal) => CommandAnswer::Refused(refusal),
+    }
+}
+
+fn confirm_if(
+    g: Geometry,
+    permit: Permit,
+    boot: &mut [u8],
+    update: &mut [u8],
+    swap: &mut [u8],
+) -> CommandAnswer
+    requires { ⌜ Shaped g (flash (now boot) (now update) (now swap)) ⌝ }
+    ensures { λ r. ⌜ commanded r (flash (now (boot .exit)) (now (update .exit)) (now (swap .exit))) ≡ command g confirmOperations (permitOf permit) (flash (now (boot .entry)) (now (update .entry)) (now (swap .entry))) ⌝ }
+{
+    match permit {
+        Permit::Granted => {
+            steps::perform(
+                g,
+                Operation::WriteBootStatus(BootStatus::Success),
+                boot,
+                update,
+                swap,
+            );
+            CommandAnswer::Done(1)
+        }
+        Permit::Denied(refusal) => CommandAnswer::Refused(refusal),
+    }
+}
+
+// Arms the update that stands in UPDATE. Any numbers, lengths and bytes are taken.
+pub fn arm(
+    sectors: usize,
+    size: usize,
+    boot: &mut [u8],
+    update: &mut [u8],
+    swap: &mut [u8],
+) -> CommandAnswer
+    ensures { λ r. ⌜ commanded r (flash (now (boot .exit)) (now (update .exit)) (now (swap .exit))) ≡ arm (geometry sectors size) (flash (now (boot .entry)) (now (update .entry)) (now (swap .entry))) ⌝ }
+{
+    match flash::check_flash(sectors, size, boot, update, swap) {
+        GeometryAnswer::Fits(g) => {
+            let permit = decision::decide_arm(g, boot, update);
+            arm_if(g, permit, boot, update, swap)
+        }
+        GeometryAnswer::Outside => CommandAnswer::Refused(CommandRefusal::OutsideRules),
+    }
+}
+
+// Keeps the image that runs on test. Any numbers, lengths and bytes are taken.
+pub fn confirm(
+    sectors: usize,
+    size: usize,
+    boot: &mut [u8],
+    update: &mut [u8],
+    swap: &mut [u8],
+) -> CommandAnswer
+    ensures { λ r. ⌜ commanded r (flash (now (boot .exit)) (now (update .exit)) (now (swap .exit))) ≡ confirm (geometry sectors size) (flash (now (boot .entry)) (now (update .entry)) (now (swap .entry))) ⌝ }
+{
+    match flash::check_flash(sectors, size, boot, update, swap) {
+        GeometryAnswer::Fits(g) => {
+            let permit = decision::decide_confirm(g, boot, update);
+            confirm_if(g, permit, boot, update, swap)
+        }
+        GeometryAnswer::Outside => CommandAnswer::Refused(CommandRefusal::OutsideRules),
+    }
+}
