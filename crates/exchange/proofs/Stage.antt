@@ -28,10 +28,10 @@ use Rattle.exchange.specs.declared.Job.the-variants.{Update, Fallback}
 use Rattle.exchange.specs.Operations.{get, put, perform, target, source, nextFlag, legOperation, placeAfter}
 use Rattle.exchange.specs.Order.{exchangeNext, nextOperation}
 use Rattle.exchange.specs.LostPower.{Torn, performTorn}
-use Rattle.exchange.specs.Demand.{Exchange, update, fallback, jobOf}
+use Rattle.exchange.specs.Demand.{Exchange, update, fallback, jobOf, LastBytes}
 use Rattle.exchange.specs.RuledOut.{Underway, from-new, from-success, from-testing}
 use Rattle.flash.proofs.Checked.{some-firmware}
-use Rattle.flash.proofs.Laws.{length-erased, boot-erased, update-erased, boot-written, status-flag}
+use Rattle.flash.proofs.Laws.{length-erased, sector-same, boot-erased, update-erased, boot-written, status-flag}
 use Rattle.flash.proofs.Shown.{shown-all-0}
 use Rattle.flash.proofs.Moves.{legMoves, atLeg, shown-leg}
 use Rattle.exchange.proofs.Orders.{next-by-reads}
@@ -66,9 +66,10 @@ closingOperation write-testing = WriteBootStatus Testing
 closingOperation erase-update = EraseUpdateTrailer
 closingOperation write-success = WriteBootStatus Success
 
-pub record Swapped (g : Geometry) (old f : Flash) : Type 0 where
+pub record Swapped (x : Exchange) (g : Geometry) (old f : Flash) : Type 0 where
   pub bootIs : (j : ℕ) → j < firmware g → get g Boot j f ≡ get g UpdateArea j old
   pub updateIs : (j : ℕ) → j < firmware g → get g UpdateArea j f ≡ get g Boot j old
+  pub lastBytes : LastBytes x g f
 
 -- at the place p of a leg, with r operations left
 pub data Stage (g : Geometry) (old : Flash) {x : Exchange} {b₀ : BootStatus} {u₀ : UpdateStatus} (B : Underway x b₀ u₀) (f : Flash) (p r : ℕ) : Type 0 where
@@ -77,7 +78,7 @@ pub data Stage (g : Geometry) (old : Flash) {x : Exchange} {b₀ : BootStatus} {
       → r + 3 * (3 * i + legMoves leg) + p ≡ 9 * firmware g + closingLeft (closing B) → Stage g old B f p r
   at-last : (b : BootStatus) (u : UpdateStatus) (c : Closing x b u) → closingLeft c ≤ closingLeft (closing B) → Crossed g old f
       → bootStatusAt g (f .boot) ≡ gives b → updateStatusAt g (f .update) ≡ gives u → r ≡ closingLeft c → p ≡ 0 → Stage g old B f p r
-  at-end : (b : BootStatus) (u : UpdateStatus) (c : Closed x b u) → Swapped g old f → Shaped g f
+  at-end : (b : BootStatus) (u : UpdateStatus) (c : Closed x b u) → Swapped x g old f → Shaped g f
       → bootStatusAt g (f .boot) ≡ gives b → updateStatusAt g (f .update) ≡ gives u → r ≡ 0 → p ≡ 0 → Stage g old B f p r
 
 pub data Stepped (g : Geometry) (old : Flash) {x : Exchange} {b₀ : BootStatus} {u₀ : UpdateStatus} (B : Underway x b₀ u₀) (f : Flash) (p r : ℕ) : Type 0 where
@@ -127,9 +128,6 @@ either g old x b₀ u₀ B false f f′ p r a b = (suc r + p, omega arith, b)
 pub all-0 : (g : Geometry) (G : Limits g) (old f : Flash) → Crossed g old f → flagsAt g (f .update) ≡ All0
 all-0 g G old f s = shown-all-0 g (f .update) (some-firmware g G) (s .flags0)
 
-swapped : (g : Geometry) (old f : Flash) → Crossed g old f → Swapped g old f
-swapped g old f s = record { bootIs = s .bootIs; updateIs = s .updateIs }
-
 last-step : (g : Geometry) (G : Limits g) (old : Flash) (x : Exchange) (b₀ : BootStatus) (u₀ : UpdateStatus) (B : Underway x b₀ u₀) (f : Flash) (r : ℕ)
     (b : BootStatus) (u : UpdateStatus) (c : Closing x b u) → closingLeft c ≤ closingLeft (closing B)
     → Crossed g old f → bootStatusAt g (f .boot) ≡ gives b → updateStatusAt g (f .update) ≡ gives u → suc r ≡ closingLeft c → Stepped g old B f 0 r
@@ -145,7 +143,11 @@ last-step g G old x b₀ u₀ B f r b u write-testing le s e₁ e₂ n =
     (λ y Y. either g old x b₀ u₀ B (y .new) f (perform g (WriteBootStatus Testing) f) 0 r next (at-last BootNew Updating write-testing le s e₁ e₂ (omega arith) refl))
 last-step g G old x b₀ u₀ B f r b u erase-update le s e₁ e₂ n =
     let next : Stage g old B (perform g EraseUpdateTrailer f) 0 r
-    = at-end Testing UpdateNew on-test (record { bootIs = s .bootIs; updateIs = update-trailer g G old f s })
+    = at-end Testing UpdateNew on-test (record {
+      bootIs = s .bootIs;
+      updateIs = update-trailer g G old f s;
+      lastBytes = sector-same g G (f .update) (erased (g .size)) (s .shaped .update) (length-erased (g .size)) (firmware g) (omega arith);
+    })
     (put-shaped g G UpdateArea (firmware g) (erased (g .size)) f (omega arith) (length-erased (g .size)) (s .shaped)) e₁
     (update-erased g G (f .update) (s .shaped .update)) (omega arith) refl in
     stepped EraseUpdateTrailer (next-last g x b u erase-update 0 f e₁ e₂ (all-0 g G old f s)) next
@@ -153,7 +155,7 @@ last-step g G old x b₀ u₀ B f r b u erase-update le s e₁ e₂ n =
 last-step g G old x b₀ u₀ B f r b u write-success le s e₁ e₂ n =
     let s′ : Crossed g old (perform g (WriteBootStatus Success) f) = boot-status g G old f s Success in
     let next : Stage g old B (perform g (WriteBootStatus Success) f) 0 r
-    = at-end Success UpdateNew fallen-back (swapped g old (perform g (WriteBootStatus Success) f) s′) (s′ .shaped)
+    = at-end Success UpdateNew fallen-back (record { bootIs = s′ .bootIs; updateIs = s′ .updateIs; lastBytes = boot-written g G (f .boot) (s .shaped .boot) Success }) (s′ .shaped)
     (boot-written g G (f .boot) (s .shaped .boot) Success) e₂ (omega arith) refl in
     stepped (WriteBootStatus Success) (next-last g x b u write-success 0 f e₁ e₂ (all-0 g G old f s)) next
     (λ y Y. either g old x b₀ u₀ B (y .new) f (perform g (WriteBootStatus Success) f) 0 r next (at-last Testing UpdateNew write-success le s e₁ e₂ (omega arith) refl))

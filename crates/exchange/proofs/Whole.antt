@@ -20,7 +20,7 @@ use Rattle.flash.specs.Buffers.{Flash, fits}
 use Rattle.exchange.specs.Operations.{get, oldBootIn, oldUpdateIn}
 use Rattle.exchange.specs.Decision.{Check}
 use Rattle.exchange.specs.PowerUp.{Outcome, refusal, cut, runs, runsOnTest, runsFallenBack}
-use Rattle.exchange.specs.Demand.{Exchange, update, ReadsFirmware, Finished, Ending, untorn, lost, Event, answer, isCut, leftBy, left, Allowed, flashAfter, completed, earlyEnds, InPlace, SectorExchanged, NoFlagBack, EachMovesOn, EachAnswers, most, bootAtFinish, Safe, Demand3}
+use Rattle.exchange.specs.Demand.{Exchange, update, ReadsFirmware, Finished, Ending, untorn, lost, Event, answer, isCut, leftBy, left, Allowed, flashAfter, completed, earlyEnds, InPlace, SectorExchanged, NoFlagBack, LastBytes, EachMovesOn, EachAnswers, most, bootAtFinish, Safe, Demand3}
 use Rattle.flash.proofs.Checked.{shaped-of, some-firmware}
 use Rattle.flash.proofs.Moves.{moved, moved-none, legMoves, leg-below, moves-none}
 use Rattle.exchange.proofs.Accepted.{Images, Armed, boot-new, boot-success, boot-testing, Accepted, accepted}
@@ -29,15 +29,16 @@ use Rattle.exchange.proofs.Stage.{closing, closingLeft, Closed, on-test
 use Rattle.exchange.proofs.Walked.{closing-some}
 use Rattle.exchange.proofs.Played.{end-of, unfinished, none-back, Played, played}
 
--- the statuses at the finish
+-- the last bytes and the statuses at the finish
 record Settled (x : Exchange) (g : Geometry) (f : Flash) : Type 0 where
+  last : LastBytes x g f
   boot : bootStatusAt g (f .boot) ≡ gives (bootAtFinish x)
   update : updateStatusAt g (f .update) ≡ gives UpdateNew
 
 closed-as : (x : Exchange) (b : BootStatus) (u : UpdateStatus) (c : Closed x b u) (g : Geometry) (f : Flash)
-    → bootStatusAt g (f .boot) ≡ gives b → updateStatusAt g (f .update) ≡ gives u → Settled x g f
-closed-as x b u on-test g f e₁ e₂ = record { boot = e₁; update = e₂ }
-closed-as x b u fallen-back g f e₁ e₂ = record { boot = e₁; update = e₂ }
+    → bootStatusAt g (f .boot) ≡ gives b → updateStatusAt g (f .update) ≡ gives u → LastBytes x g f → Settled x g f
+closed-as x b u on-test g f e₁ e₂ l = record { last = l; boot = e₁; update = e₂ }
+closed-as x b u fallen-back g f e₁ e₂ l = record { last = l; boot = e₁; update = e₂ }
 
 cut-small : (o : Outcome) → isCut o ≤ 1
 cut-small (refusal n i p) = omega arith
@@ -116,7 +117,7 @@ module _ (check : Check) (g : Geometry) (G : Limits g) (old : Flash) {x : Exchan
   settles : (f : Flash) (r : ℕ) → Stage g old B f 0 r → Finished x g f → Settled x g f
   settles f zero (in-leg k leg hk hp s e₁ e₂ ready n) e = absurd (omega (arith, leg-below leg))
   settles f zero (at-last b u c le s e₁ e₂ n z) e = absurd (omega (arith, closing-some c))
-  settles f zero (at-end b u c y s e₁ e₂ n z) e = closed-as x b u c g f e₁ e₂
+  settles f zero (at-end b u c y s e₁ e₂ n z) e = closed-as x b u c g f e₁ e₂ (y .lastBytes)
   settles f (suc r) s e = absurd (unfinished check g G old B I fit R f 0 r s e)
 
   safe : closingLeft (closing B) + 9 * firmware g ≤ most x (firmware g) → bootStatusAt g (old .boot) ≡ gives b₀ → updateStatusAt g (old .update) ≡ gives u₀
@@ -129,6 +130,7 @@ module _ (check : Check) (g : Geometry) (G : Limits g) (old : Flash) {x : Exchan
         movesOn = l .moves;
         noFlagBack = l .back;
         exchanged = crossed-over (flashAfter check old es) (l .rest) (l .stage);
+        lastBytes = λ e. (settles (flashAfter check old es) (l .rest) (l .stage) e) .last;
         bootStatus = λ e. (settles (flashAfter check old es) (l .rest) (l .stage) e) .boot;
         updateStatus = λ e. (settles (flashAfter check old es) (l .rest) (l .stage) e) .update;
         answers = l .says;

@@ -15,7 +15,7 @@ use Rattle.flash.specs.declared.Flag.the-variants.{Untouched, Saved, Moved, Exc
 use Rattle.flash.specs.declared.FlagRead.the-variants.{Known}
 use Rattle.flash.specs.declared.Flags.the-variants.{AllF}
 use Rattle.flash.specs.Sizes.{firmware, partitionSize}
-use Rattle.flash.specs.Sectors.{firmwareOf}
+use Rattle.flash.specs.Sectors.{firmwareOf, erased}
 use Rattle.flash.specs.StatusBytes.{bootStatusAt, updateStatusAt}
 use Rattle.flash.specs.SectorFlags.{flagAt, flagsAt}
 use Rattle.flash.specs.Buffers.{Flash, fits}
@@ -203,25 +203,37 @@ unfoldable pub EachAnswers : Check → Exchange → Flash → List Event → Typ
 EachAnswers check x f [] = Unit {0}
 EachAnswers check x f (e ∷ es) = Answers check x f e (e .ending) × EachAnswers check x ((left check f e) .flash) es
 
--- The operations of an exchange of m firmware sectors that nothing disturbs: 9m + 3 for an update, 9m + 1 for a fallback.
+-- What an exchange of m firmware sectors takes at most if nothing disturbs it: nine operations for each sector, and those that close
+-- it, three of an update and one of a fallback.
 abbrev pub most : Exchange → ℕ → ℕ
 most update m = 9 * m + 3
 most fallback m = 9 * m + 1
+
+-- The last operation's bytes: an UPDATE trailer sector that is erased from end to end, or SUCCESS in BOOT.
+abbrev pub LastBytes : Exchange → Geometry → Flash → Type 0
+LastBytes update g f = get g Update (firmware g) f ≡ erased (g .size)
+LastBytes fallback g f = bootStatusAt g (f .boot) ≡ gives Success
 
 -- BOOT's status at the finish. UPDATE's is NEW.
 abbrev pub bootAtFinish : Exchange → BootStatus
 bootAtFinish update = Testing
 bootAtFinish fallback = Success
 
--- All that is claimed of a list, as one claim. Each early end costs two operations more at most: a leg that is begun again.
+-- All that is claimed of a list, as one claim.
 pub record Safe (check : Check) (x : Exchange) (g : Geometry) (f : Flash) (es : List Event) : Type 0 where
+  -- until the finish each old firmware sector of BOOT and of UPDATE is in its place
   pub inPlace : ¬ Finished x g (flashAfter check f es) → (i : ℕ) → i < firmware g → InPlace g f (flashAfter check f es) i
+  -- the bound on completed operations: an early end costs two more at most, those of a leg that is begun again
   pub bounded : completed check f es ≤ most x (firmware g) + 2 * earlyEnds check f es
+  -- each power-up makes progress, and none undoes any
   pub movesOn : EachMovesOn check x g f es
   pub noFlagBack : NoFlagBack check x g f es
+  -- at the finish the firmware sectors have changed sides, the last operation's bytes stand, and the statuses are those of 01
   pub exchanged : Finished x g (flashAfter check f es) → (i : ℕ) → i < firmware g → SectorExchanged g f (flashAfter check f es) i
+  pub lastBytes : Finished x g (flashAfter check f es) → LastBytes x g (flashAfter check f es)
   pub bootStatus : Finished x g (flashAfter check f es) → bootStatusAt g (flashAfter check f es .boot) ≡ gives (bootAtFinish x)
   pub updateStatus : Finished x g (flashAfter check f es) → updateStatusAt g (flashAfter check f es .update) ≡ gives UpdateNew
+  -- what each power-up answers
   pub answers : EachAnswers check x f es
 
 -- For every image check that reads the firmware sectors only, every start and every list that 01 allows from there.
