@@ -1,2 +1,6 @@
 -- What a C caller gets.
+pub mod Numbers
 pub mod Digest
+pub mod Headers
+pub mod Walking
+pub mod Loading

@@ -1,30 +1,209 @@
-// The C interface of the library. A C caller passes a slice as a pointer and a length.
+// The C interface of the library. A C caller passes a slice as a pointer and a length. Every answer is 0 or a refusal's number;
+// a buffer of another length than documented is refusal 1, and nothing changes.
+mod numbers;
+mod rows;
+
+use header::Header;
 ghost use mathlib.Core.Path.{_≡_};
-ghost use lib.ListN.{length};
+ghost use Rattle.flash.specs.Buffers.{flash};
 ghost use Rattle.tainhosa.specs.Digest.{sha256Answer};
+ghost use Rattle.tainhosa.specs.Headers.{readAnswer, checkAnswer, valuesFrom, writeAnswer};
+ghost use Rattle.tainhosa.specs.Walking.{tagAnswer};
+ghost use Rattle.tainhosa.specs.Loading.{powerUpAnswer, armAnswer, confirmAnswer};
 
-// All of from's bytes, into to.
-fn copy(to: &mut [u8], from: &[u8])
-    requires { ⌜ length (now to) ≡ length (now from) ⌝ }
-    ensures { λ _. ⌜ now (to .exit) ≡ now (from .entry) ⌝ }
-{
-    let mut i: usize = 0;
-    while i < to.len() {
-        to[i] = from[i];
-        i += 1;
-    }
-}
+// How many numbers and bytes a header's values are.
+const HEADER_NUMBERS: usize = 6;
 
-// The SHA-256 digest of the message, into the 32 bytes of digest, and the answer 0. Where digest is not 32 bytes long, the
-// answer is 1 and digest stays as it is.
+const HEADER_BYTES: usize = 128;
+
+const DIGEST_BYTES: usize = 32;
+
+// The rows of the other calls.
+const TAG_NUMBERS: usize = 6;
+
+const POWER_UP_NUMBERS: usize = 6;
+
+const COMMAND_NUMBERS: usize = 1;
+
+// A length outside the rules.
+const WRONG_LENGTH: u32 = 1;
+
+// The SHA-256 digest of the message, into the 32 bytes of digest.
 #[no_mangle]
 pub extern "C" fn tainhosa_sha256(message: &[u8], digest: &mut [u8]) -> u32
     ensures { λ r. ⌜ record { answer = r; bytes = now (digest .exit) } ≡ sha256Answer (now (message .entry)) (now (digest .entry)) ⌝ }
 {
-    if digest.len() != 32 {
-        return 1;
+    if digest.len() != DIGEST_BYTES {
+        return WRONG_LENGTH;
     }
     let d = sha256::digest(message);
-    copy(digest, &d);
+    rows::put_bytes(digest, &d);
     0
+}
+
+// Reads the header in the first 256 bytes of the input.
+#[no_mangle]
+pub extern "C" fn tainhosa_read_header(input: &[u8], numbers: &mut [u64], bytes: &mut [u8]) -> u32
+    ensures { λ r. ⌜ record { answer = r; numbers = now (numbers .exit); bytes = now (bytes .exit) } ≡ readAnswer (now (input .entry)) (now (numbers .entry)) (now (bytes .entry)) ⌝ }
+{
+    if numbers.len() != HEADER_NUMBERS {
+        return WRONG_LENGTH;
+    }
+    if bytes.len() != HEADER_BYTES {
+        return WRONG_LENGTH;
+    }
+    let read = header::read_header(input);
+    let outcome = read.outcome;
+    let refused = numbers::of_header(outcome);
+    let h = read.header;
+    rows::put_header(numbers, bytes, refused.place, h);
+    refused.number
+}
+
+// Checks the image of a partition.
+#[no_mangle]
+pub extern "C" fn tainhosa_check_image(
+    sectors: usize,
+    size: usize,
+    partition: &[u8],
+    numbers: &mut [u64],
+    bytes: &mut [u8],
+) -> u32
+    ensures { λ r. ⌜ record { answer = r; numbers = now (numbers .exit); bytes = now (bytes .exit) } ≡ checkAnswer sectors size (now (partition .entry)) (now (numbers .entry)) (now (bytes .entry)) ⌝ }
+{
+    if numbers.len() != HEADER_NUMBERS {
+        return WRONG_LENGTH;
+    }
+    if bytes.len() != HEADER_BYTES {
+        return WRONG_LENGTH;
+    }
+    let checked = image::check_image(sectors, size, partition);
+    let outcome = checked.outcome;
+    let refused = numbers::of_image(outcome);
+    let h = checked.header;
+    rows::put_header(numbers, bytes, refused.place, h);
+    refused.number
+}
+
+// Writes a header into the first 256 bytes of the output. The bytes are the digest, the signature and the hint.
+#[no_mangle]
+pub extern "C" fn tainhosa_write_header(
+    out: &mut [u8],
+    size: u32,
+    version: u32,
+    timestamp: u64,
+    auth_type: u16,
+    has_hint: bool,
+    bytes: &[u8],
+) -> u32
+    ensures { λ r. ⌜ record { answer = r; out = now (out .exit) } ≡ writeAnswer (now (out .entry)) (valuesFrom size version timestamp «auth_type» «has_hint» (now (bytes .entry))) (now (bytes .entry)) ⌝ }
+{
+    if bytes.len() != HEADER_BYTES {
+        return WRONG_LENGTH;
+    }
+    let digest = rows::take_32(bytes, 0);
+    let signature = rows::take_64(bytes, 32);
+    let hint = rows::take_32(bytes, 96);
+    let v = Header {
+        size,
+        version,
+        timestamp,
+        digest,
+        signature,
+        auth_type,
+        has_hint,
+        hint,
+    };
+    let outcome = header_writer::write_header(out, v);
+    numbers::of_write(outcome)
+}
+
+// The tag from a place of a header on, and the place to go on from.
+#[no_mangle]
+pub extern "C" fn tainhosa_next_tag(input: &[u8], at: usize, tag: &mut [u64]) -> u32
+    ensures { λ r. ⌜ record { answer = r; row = now (tag .exit) } ≡ tagAnswer (now (input .entry)) at (now (tag .entry)) ⌝ }
+{
+    if tag.len() != TAG_NUMBERS {
+        return WRONG_LENGTH;
+    }
+    let t = tags::walk_at(input, at);
+    let next = tags::next_place(input, at);
+    let row = numbers::tag_row(t, next as u64);
+    rows::put_numbers(tag, &row);
+    numbers::of_tag(t)
+}
+
+// A power-up with at most `budget` operations.
+#[no_mangle]
+pub extern "C" fn tainhosa_power_up(
+    sectors: usize,
+    size: usize,
+    boot: &mut [u8],
+    update: &mut [u8],
+    swap: &mut [u8],
+    budget: u64,
+    answer: &mut [u64],
+) -> u32
+    ensures { λ r. ⌜ record { answer = r; row = now (answer .exit); flash = flash (now (boot .exit)) (now (update .exit)) (now (swap .exit)) } ≡ powerUpAnswer sectors size (flash (now (boot .entry)) (now (update .entry)) (now (swap .entry))) budget (now (answer .entry)) ⌝ }
+{
+    if answer.len() != POWER_UP_NUMBERS {
+        return WRONG_LENGTH;
+    }
+    let a = loader::power_up(sectors, size, boot, update, swap, budget);
+    let outcome = a.outcome;
+    let reason = a.reason;
+    let ended = numbers::of_outcome(outcome);
+    let why = numbers::of_reason(reason);
+    let row = [
+        ended.outcome,
+        a.count,
+        ended.inner,
+        ended.place,
+        why.number as u64,
+        why.place,
+    ];
+    rows::put_numbers(answer, &row);
+    ended.number
+}
+
+// Arms the update that stands in UPDATE.
+#[no_mangle]
+pub extern "C" fn tainhosa_arm(
+    sectors: usize,
+    size: usize,
+    boot: &mut [u8],
+    update: &mut [u8],
+    swap: &mut [u8],
+    count: &mut [u64],
+) -> u32
+    ensures { λ r. ⌜ record { answer = r; row = now (count .exit); flash = flash (now (boot .exit)) (now (update .exit)) (now (swap .exit)) } ≡ armAnswer sectors size (flash (now (boot .entry)) (now (update .entry)) (now (swap .entry))) (now (count .entry)) ⌝ }
+{
+    if count.len() != COMMAND_NUMBERS {
+        return WRONG_LENGTH;
+    }
+    let a = loader::arm(sectors, size, boot, update, swap);
+    let row = [numbers::count_of(a)];
+    rows::put_numbers(count, &row);
+    numbers::of_command(a)
+}
+
+// Keeps the image that runs on test.
+#[no_mangle]
+pub extern "C" fn tainhosa_confirm(
+    sectors: usize,
+    size: usize,
+    boot: &mut [u8],
+    update: &mut [u8],
+    swap: &mut [u8],
+    count: &mut [u64],
+) -> u32
+    ensures { λ r. ⌜ record { answer = r; row = now (count .exit); flash = flash (now (boot .exit)) (now (update .exit)) (now (swap .exit)) } ≡ confirmAnswer sectors size (flash (now (boot .entry)) (now (update .entry)) (now (swap .entry))) (now (count .entry)) ⌝ }
+{
+    if count.len() != COMMAND_NUMBERS {
+        return WRONG_LENGTH;
+    }
+    let a = loader::confirm(sectors, size, boot, update, swap);
+    let row = [numbers::count_of(a)];
+    rows::put_numbers(count, &row);
+    numbers::of_command(a)
 }

@@ -6,14 +6,14 @@ use native.Mathlib.Numerals.{add-one}
 use Prim.Native.Nat.{_≤_, _-_, _+_}
 use lib.ListN.{length, take, getD, length-set}
 use lib.Seq.{take-suc, take-suc-set, take-all}
-use Rattle.tainhosa.proofs.copy.Statement.{statement}
-use Rattle.tainhosa.proofs.copy.Tie as tie
+use Rattle.tainhosa.proofs.rows.put_numbers.Statement.{statement}
+use Rattle.tainhosa.proofs.rows.put_numbers.Tie as tie
 
 abbrev Inv-loop : tie.InvT-loop
-Inv-loop to₀ from i₀ to i = (i ≤ length from) × (length to ≡ length from) × (take i to ≡ take i from)
+Inv-loop row₀ values i₀ row i = (i ≤ length values) × (length row ≡ length values) × (take i row ≡ take i values)
 
 abbrev μ-loop : tie.MeasureT-loop
-μ-loop to₀ from i₀ to i = length from - i
+μ-loop row₀ values i₀ row i = length values - i
 
 loop-holds : tie.Need-loop-holds Inv-loop μ-loop
 loop-holds c = (omega arith, c .pre, refl)
@@ -21,10 +21,10 @@ loop-holds c = (omega arith, c .pre, refl)
 loop-again : tie.Need-loop-again Inv-loop μ-loop
 loop-again c =
     let l = c .before .before .loop in
-    let f = c .before .before .before .args .from .now in (
+    let f = c .before .before .before .args .values .now in (
       omega arith,
       simp length-set (l .inv .1),
-      rw add-one (take-suc-set (l .to) (l .i) (getD f (l .i) 0) (omega arith) ∙ ap (λ x. x ++ getD f (l .i) 0 ∷ []) (l .inv .2) ∙ sym (take-suc f (l .i) 0 (omega arith))),
+      rw add-one (take-suc-set (l .row) (l .i) (getD f (l .i) 0) (omega arith) ∙ ap (λ x. x ++ getD f (l .i) 0 ∷ []) (l .inv .2) ∙ sym (take-suc f (l .i) 0 (omega arith))),
     )
 
 returns : tie.Need-returns Inv-loop μ-loop
@@ -32,13 +32,15 @@ returns c =
     let l = c .before .loop in
     sym (take-all (l .i) _ (omega arith)) ∙ l .inv .2 ∙ take-all (l .i) _ (omega arith)
 
-pub copy-spec : {M : Type 1} → statement M
-copy-spec =
+pub put-numbers-spec : {M : Type 1} → statement M
+put-numbers-spec =
     tie.close
     (tie.spec
     Inv-loop
     μ-loop
     loop-holds
+    (λ c. search needs)
+    (λ c. search needs)
     (λ c. search needs)
     (λ c. search needs)
     (λ c. search needs)

@@ -1,0 +1,110 @@
+-- What each call answers where its buffers have their lengths. Assumes nothing.
+use mathlib.Core.Path.{_≡_, refl, sym, ap, ap₂, _∙_}
+use Prim.Native.Nat.{ℕ}
+use mathlib.Core.List.{List, [], _∷_}
+use lib.ListN.{length}
+use borrow.Author.Tests.{eq-eqb}
+use Rattle.refusals.specs.Answer.{Answer, gives, refused}
+use Rattle.flash.specs.Sizes.{geometry}
+use Rattle.flash.specs.Buffers.{Flash}
+use Rattle.header.specs.declared.Header.{Header}
+use Rattle.header.specs.declared.HeaderAnswer.{HeaderAnswer}
+use Rattle.header.specs.declared.HeaderOutcome.{HeaderOutcome}
+use Rattle.header.specs.declared.HeaderOutcome.the-variants.{Accepted, TooShort, WrongMagic, ZeroSize, TagDoesNotFit, WrongLength, Repeated, NoEnd, Missing}
+use Rattle.header.specs.Reading as header
+use Rattle.header.specs.Reading.{readHeader, valuesOf, Reads}
+use Rattle.header_writer.specs.Writing.{Write, writeHeader}
+use Rattle.image.specs.declared.ImageAnswer.{ImageAnswer}
+use Rattle.image.specs.declared.ImageOutcome.{ImageOutcome}
+use Rattle.image.specs.declared.ImageOutcome.the-variants.{Good, OutsideRules, BadHeader, TooLarge, WrongDigest}
+use Rattle.image.specs.Check as image
+use Rattle.image.specs.Check.{Checks, checkImage}
+use Rattle.exchange.specs.PowerUp.{powerUp}
+use Rattle.exchange.specs.Commands.{Command}
+use Rattle.loader.specs.declared.PowerUpAnswer.{PowerUpAnswer}
+use Rattle.loader.specs.declared.CommandAnswer.{CommandAnswer}
+use Rattle.loader.specs.Loader.{checkOf, own, ownOf, outcomeOf, reasonOf, answered, commandOf, commanded}
+use Rattle.tags.specs.Walk.{Item, walkAt, placeAfter}
+use Rattle.tainhosa.specs.declared.numbers.Refused.{Refused}
+use Rattle.tainhosa.specs.declared.numbers.Ended.{Ended}
+use Rattle.tainhosa.specs.Numbers.{refusedAt, refusalOf, headerRefusal, imageRefusal}
+use Rattle.tainhosa.specs.Headers.{numbersOf, bytesOf, Given, given, readAnswer, checkAnswer, Wrote, wrote, writeAnswer}
+use Rattle.tainhosa.specs.Walking.{rowOf, Walked, tagAnswer}
+use Rattle.tainhosa.specs.Loading.{endedOf, reasonRefusal, powerRow, Loaded, poweredUp, powerUpAnswer, countOf, obeyed, commandAnswer}
+
+-- a refusal is the same whatever an accepted one would give
+header-refusal : (o : HeaderOutcome) (v : Header) → headerRefusal o ≡ refusalOf (header.answerOf o v)
+header-refusal Accepted v = refl
+header-refusal TooShort v = refl
+header-refusal WrongMagic v = refl
+header-refusal ZeroSize v = refl
+header-refusal (TagDoesNotFit p) v = refl
+header-refusal (WrongLength p) v = refl
+header-refusal (Repeated p) v = refl
+header-refusal (NoEnd p) v = refl
+header-refusal (Missing t) v = refl
+
+image-refusal : (o : ImageOutcome) (v : Header) → imageRefusal o ≡ refusalOf (image.answerOf o v)
+image-refusal Good v = refl
+image-refusal OutsideRules v = refl
+image-refusal (BadHeader h) v = header-refusal h v
+image-refusal TooLarge v = refl
+image-refusal WrongDigest v = refl
+
+-- a header's values in buffers of their lengths
+module _ (n b n′ b′ : List ℕ) (x : Refused) (p : length n ≡ 6) (q : length b ≡ 128) where
+  laid : (a : Answer Header) (v : Header) → x ≡ refusalOf a → v ≡ valuesOf a → n′ ≡ numbersOf (x .place) v → b′ ≡ bytesOf v
+      → _≡_ {A = Given} (record { answer = x .number; numbers = n′; bytes = b′ }) (given a n b)
+  laid a v ex ev en eb = rw (eq-eqb (length n) 6 p, eq-eqb (length b) 128 q, en, eb, ex, ev)
+
+  pub read-laid : (s : List ℕ) (r : HeaderAnswer) → Reads s r → x ≡ headerRefusal (r .outcome)
+      → n′ ≡ numbersOf (x .place) (r .header) → b′ ≡ bytesOf (r .header)
+      → _≡_ {A = Given} (record { answer = x .number; numbers = n′; bytes = b′ }) (readAnswer s n b)
+  read-laid s r e ex en eb =
+      laid (readHeader s) (r .header)
+      (ex ∙ header-refusal (r .outcome) (r .header) ∙ ap (λ (a : Answer Header). refusalOf a) (e .outcome)) (e .values) en eb
+
+  pub check-laid : (k size : ℕ) (l : List ℕ) (r : ImageAnswer) → Checks (checkImage k size l) r → x ≡ imageRefusal (r .outcome)
+      → n′ ≡ numbersOf (x .place) (r .header) → b′ ≡ bytesOf (r .header)
+      → _≡_ {A = Given} (record { answer = x .number; numbers = n′; bytes = b′ }) (checkAnswer k size l n b)
+  check-laid k size l r e ex en eb =
+      laid (checkImage k size l) (r .header)
+      (ex ∙ image-refusal (r .outcome) (r .header) ∙ ap (λ (a : Answer Header). refusalOf a) (e .outcome)) (e .values) en eb
+
+-- a header written
+pub written : (out b : List ℕ) (v : Header) (w : Write) (x : ℕ) → length b ≡ 128 → w ≡ writeHeader v out
+    → x ≡ refusalOf (w .answer) .number → _≡_ {A = Wrote} (record { answer = x; out = w .bytes }) (writeAnswer out v b)
+written out b v w x p e ex = rw (eq-eqb (length b) 128 p, ex) (ap wrote e)
+
+-- a tag in a row of its length
+abbrev walk : ℕ → List ℕ → Walked
+walk n r = record { answer = n; row = r }
+
+pub walked-on : (s : List ℕ) (p : ℕ) (row row′ : List ℕ) (a : Answer Item) (x next : ℕ) → length row ≡ 6
+    → a ≡ walkAt s p → next ≡ placeAfter (walkAt s p) p → row′ ≡ rowOf a next → x ≡ refusalOf a .number
+    → walk x row′ ≡ tagAnswer s p row
+walked-on s p row row′ a x next h e en er ex =
+    rw (eq-eqb (length row) 6 h)
+    (ap₂ walk (ex ∙ ap (λ (i : Answer Item). refusalOf i .number) e) (er ∙ ap₂ rowOf e en))
+
+-- ---- power-up, arm and confirm
+
+-- a bad image's own number and place
+own-is : (a : Answer (Unit {0})) → refusalOf a ≡ refusedAt (own a .number) (own a .place)
+own-is (gives t) = refl
+own-is (refused n p) = refl
+
+pub own-refusal : (o : ImageOutcome) → imageRefusal o ≡ refusedAt (ownOf o .number) (ownOf o .place)
+own-refusal o = own-is (image.answerOf o tt)
+
+module _ (f f′ : Flash) (row row′ : List ℕ) where
+  pub powered-up : (n s budget : ℕ) (r : PowerUpAnswer) (e : Ended) (why : Refused) → length row ≡ 6
+      → answered r f′ ≡ powerUp checkOf (geometry n s) f budget → e ≡ endedOf (outcomeOf (r .outcome))
+      → why ≡ reasonRefusal (reasonOf (r .reason)) → row′ ≡ powerRow e (r .count) why
+      → _≡_ {A = Loaded} (record { answer = e .number; row = row′; flash = f′ }) (powerUpAnswer n s f budget row)
+  powered-up n s budget r e why h p ee ew er = rw (eq-eqb (length row) 6 h, er, ee, ew) (ap poweredUp p)
+
+  pub commanded-on : (c : Command) (r : CommandAnswer) (x k : ℕ) → length row ≡ 1 → commanded r f′ ≡ c
+      → x ≡ refusalOf (commandOf r) .number → k ≡ countOf (commandOf r) → row′ ≡ k ∷ []
+      → _≡_ {A = Loaded} (record { answer = x; row = row′; flash = f′ }) (commandAnswer c f row)
+  commanded-on c r x k h p ex ek er = rw (eq-eqb (length row) 1 h, er, ex, ek) (ap obeyed p)

@@ -1,0 +1,3 @@
+-- Laws of the answers that a C caller gets.
+pub mod Filled
+pub mod Answers

@@ -1,0 +1,37 @@
+use borrow.Author.Tests.{eq-eqb, ne-eqb}
+use lib.ListN.{length}
+use Rattle.tainhosa.proofs.Answers.{walked-on}
+use mathlib.Core.Path.{_∙_}
+use borrow.Author.Needs.{needs}
+use Rattle.tainhosa.proofs.tainhosa_next_tag.Statement.{statement}
+use Rattle.tainhosa.proofs.tainhosa_next_tag.Tie as tie
+
+returns : tie.Need-returns
+returns c =
+    let c3 = c .before .before .before in
+    simp (ne-eqb (length (c3 .args .tag .now)) 6 (c .if1 .taken))
+
+returns-2 : tie.Need-returns-2
+returns-2 c =
+    let c3 = c .before .before .before in
+    let c6 = c3 .before .before .before in
+    let c7 = c6 .before in
+    let c8 = c7 .before in
+    let c9 = c8 .before in
+    let c12 = c9 .before .before .before in
+    let a = c12 .args in
+    walked-on (a .input .now) (a .at) (a .tag .now) _ _ (c .of-tag .result) _ (c9 .if1 .left) (c8 .walk-at .ensures) (c7 .next-place .ensures) (c3 .put-numbers .ensures ∙ c6 .tag-row .ensures) (c .of-tag .ensures)
+
+pub tainhosa-next-tag-spec : {M : Type 1} → statement M
+tainhosa-next-tag-spec =
+    tie.close
+    (tie.spec
+    returns
+    (λ c κs. search needs)
+    (λ c κs. search needs)
+    (λ c κs. search needs)
+    (λ c. search needs)
+    (λ c κs. search needs)
+    (λ c κs. search needs)
+    (λ c. search needs)
+    returns-2)

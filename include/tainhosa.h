@@ -1,0 +1,207 @@
+/*
+ * tainhosa.h: a firmware loader that loses no image when power is lost.
+ *
+ * A buffer is passed as a pointer and a length. The pointer is not null, also at length 0; it has the alignment of its type; and
+ * a buffer that a call writes overlaps no other buffer of that call. Any bytes, numbers and lengths may be passed.
+ *
+ * Every call answers TAINHOSA_OK or the number of a refusal. Each call names below the length of the buffers that it fills
+ * with its answer. Where one has another length, the answer is TAINHOSA_OUTSIDE_RULES and no buffer changes.
+ */
+#ifndef TAINHOSA_H
+#define TAINHOSA_H
+
+#include <stdbool.h>
+#include <stddef.h>
+#include <stdint.h>
+
+#ifdef __cplusplus
+extern "C" {
+#endif
+
+/* ---- Answers */
+
+#define TAINHOSA_OK 0
+#define TAINHOSA_OUTSIDE_RULES 1      /* the geometry, or a buffer's length */
+#define TAINHOSA_WRONG_MAGIC 2        /* at 0 */
+#define TAINHOSA_WRONG_SIZE 3         /* firmware size 0, or more than the sectors hold; at 4 */
+#define TAINHOSA_TAG_DOES_NOT_FIT 4   /* at the tag's first byte, as 5 and 6 */
+#define TAINHOSA_TAG_WRONG_LENGTH 5
+#define TAINHOSA_TAG_REPEATED 6
+#define TAINHOSA_NO_END 7             /* at 256 */
+#define TAINHOSA_TAG_MISSING 8        /* in the place of a place: the type that is missing */
+#define TAINHOSA_WRONG_DIGEST 9       /* at 256 */
+#define TAINHOSA_STATUS_NOT_ALLOWED 10
+#define TAINHOSA_FLAGS_MALFORMED 11
+#define TAINHOSA_BAD_BOOT 12          /* with the image's own number and place */
+#define TAINHOSA_NO_FALLBACK 13       /* with the image's own number and place */
+#define TAINHOSA_WRONG_TIME 14        /* arm or confirm when it is not allowed */
+#define TAINHOSA_NOT_NEWER 15         /* only as the reason why an update was turned down */
+#define TAINHOSA_SHORT_HEADER 16      /* fewer than 256 bytes to read or write a header; at 0 */
+
+/* ---- The header: 256 bytes, then the firmware */
+
+#define TAINHOSA_HEADER_LENGTH 256
+#define TAINHOSA_FIRST_TAG 8
+
+/* The types of its tags. */
+#define TAINHOSA_TYPE_VERSION 0x0001
+#define TAINHOSA_TYPE_TIMESTAMP 0x0002
+#define TAINHOSA_TYPE_DIGEST 0x0003
+#define TAINHOSA_TYPE_SIGNATURE 0x0020
+#define TAINHOSA_TYPE_AUTH_TYPE 0x0030
+#define TAINHOSA_TYPE_HINT 0x1000
+
+/* A header's numbers: a row of 6, the first of them the place of a refusal, 0 where there is none. */
+#define TAINHOSA_HEADER_NUMBERS 6
+#define TAINHOSA_HEADER_PLACE 0
+#define TAINHOSA_HEADER_SIZE 1
+#define TAINHOSA_HEADER_VERSION 2
+#define TAINHOSA_HEADER_TIMESTAMP 3
+#define TAINHOSA_HEADER_AUTH_TYPE 4
+#define TAINHOSA_HEADER_HAS_HINT 5    /* 1 with a hint, 0 without */
+
+/* A header's bytes: 128, the digest at 0, the signature at 32, the hint at 96. */
+#define TAINHOSA_HEADER_BYTES 128
+#define TAINHOSA_DIGEST_AT 0
+#define TAINHOSA_DIGEST_BYTES 32
+#define TAINHOSA_SIGNATURE_AT 32
+#define TAINHOSA_SIGNATURE_BYTES 64
+#define TAINHOSA_HINT_AT 96
+#define TAINHOSA_HINT_BYTES 32
+
+/*
+ * Reads the header in the first 256 bytes of the input. What follows them is not looked at.
+ * OK: numbers (6) and bytes (128) hold the header's values; without a hint its 32 bytes are 0.
+ * Refused with 16, 2, 3 (size 0 only), 4, 5, 6, 7 or 8: numbers[TAINHOSA_HEADER_PLACE] is the place, all else in both is 0.
+ */
+uint32_t tainhosa_read_header(const uint8_t *input, size_t input_length,
+                              uint64_t *numbers, size_t numbers_length,
+                              uint8_t *bytes, size_t bytes_length);
+
+/*
+ * Writes a header into the first 256 bytes of out, and leaves the bytes behind them. The bytes (128) hold the digest, the
+ * signature and the hint; without a hint the last 32 are not used.
+ * OK: the header stands in out, and reads back to these values.
+ * Refused with 1 (bytes are not 128), then 16, then 3 (size 0 only): out stays as it was.
+ */
+uint32_t tainhosa_write_header(uint8_t *out, size_t out_length,
+                               uint32_t size, uint32_t version, uint64_t timestamp, uint16_t auth_type, bool has_hint,
+                               const uint8_t *bytes, size_t bytes_length);
+
+/* A tag: a row of 6. */
+#define TAINHOSA_TAG_NUMBERS 6
+#define TAINHOSA_TAG_REFUSED_AT 0     /* the place of a refusal, else 0 */
+#define TAINHOSA_TAG_FOUND 1          /* 1 for a tag; 0 at the end and beside a refusal */
+#define TAINHOSA_TAG_PLACE 2          /* the tag's first byte, its type and its length; 0 where there is no tag */
+#define TAINHOSA_TAG_TYPE 3
+#define TAINHOSA_TAG_LENGTH 4
+#define TAINHOSA_TAG_NEXT 5           /* where to go on: behind the tag; where there is none, the place that was passed */
+
+/*
+ * The first tag of the header in the input from the place `at` on, whatever its type; padding is gone over. Begin at
+ * TAINHOSA_FIRST_TAG, and go on at the place given back. Magic, size, and the lengths that the types ask for are not looked at.
+ * OK: tag (6) holds the tag, or says that the end was found.
+ * Refused with 16, 4 or 7: tag holds the place of the refusal and the place that was passed, all else is 0.
+ */
+uint32_t tainhosa_next_tag(const uint8_t *input, size_t input_length, size_t at,
+                           uint64_t *tag, size_t tag_length);
+
+/* ---- Images and flash */
+
+/*
+ * A partition, BOOT or UPDATE, has `sectors` sectors of `size` bytes: an image from byte 0 on, and in its last sector the
+ * trailer, whose last byte is the status. SWAP is one sector.
+ */
+#define TAINHOSA_SECTORS_MIN 2
+#define TAINHOSA_SECTORS_MAX 64
+#define TAINHOSA_SIZE_UNIT 256        /* a sector's size is a multiple */
+#define TAINHOSA_SIZE_MIN 256
+#define TAINHOSA_SIZE_MAX 131072
+
+#define TAINHOSA_STATUS_NEW 0xFF      /* BOOT and UPDATE */
+#define TAINHOSA_STATUS_UPDATING 0x70 /* UPDATE only */
+#define TAINHOSA_STATUS_TESTING 0x10  /* BOOT only, as SUCCESS */
+#define TAINHOSA_STATUS_SUCCESS 0x00
+
+/*
+ * Checks the image of a partition: its header, that the sectors but the last hold its firmware, and the firmware's digest.
+ * OK: numbers (6) and bytes (128) hold the header's values, as tainhosa_read_header leaves them.
+ * Refused with 1 (also for the geometry), what tainhosa_read_header refuses, 3 (firmware too large) or 9:
+ * numbers[TAINHOSA_HEADER_PLACE] is the place, all else in both is 0.
+ */
+uint32_t tainhosa_check_image(size_t sectors, size_t size,
+                              const uint8_t *partition, size_t partition_length,
+                              uint64_t *numbers, size_t numbers_length,
+                              uint8_t *bytes, size_t bytes_length);
+
+/* A power-up's answer: a row of 6. */
+#define TAINHOSA_POWER_UP_NUMBERS 6
+#define TAINHOSA_POWER_UP_OUTCOME 0
+#define TAINHOSA_POWER_UP_COUNT 1        /* the operations done */
+#define TAINHOSA_POWER_UP_INNER 2        /* of 12 and 13: the bad image's own number and place; else 0 */
+#define TAINHOSA_POWER_UP_INNER_PLACE 3
+#define TAINHOSA_POWER_UP_REASON 4       /* why an update was turned down, with its place; 0 where none was */
+#define TAINHOSA_POWER_UP_REASON_PLACE 5
+
+/* Its outcomes. */
+#define TAINHOSA_REFUSED 0
+#define TAINHOSA_CUT 1                /* an operation is left to do, and the budget is used up */
+#define TAINHOSA_RUN 2
+#define TAINHOSA_RUN_ON_TEST 3        /* the update stands in BOOT, and waits for tainhosa_confirm */
+#define TAINHOSA_RUN_FALLEN_BACK 4    /* the image before the update stands in BOOT again */
+
+/*
+ * What is to be done when power comes on: an update that was armed, a fallback from one that was not confirmed, or nothing; with
+ * at most `budget` erases, copies and writes. Where power is lost in between, call it again: it goes on from what the flash shows.
+ * OK: answer (6) holds the outcome, which is not TAINHOSA_REFUSED; boot, update and swap are as the operations leave them.
+ * Refused with 1, 10, 11, 12 or 13: answer holds the outcome TAINHOSA_REFUSED, and of 12 and 13 the bad image's own number and
+ * place; the flash stays as it was and the count is 0. Only 12 can come after operations: they stay done and are counted.
+ * With an answer buffer of another length, 1, the flash is not touched.
+ */
+uint32_t tainhosa_power_up(size_t sectors, size_t size,
+                           uint8_t *boot, size_t boot_length,
+                           uint8_t *update, size_t update_length,
+                           uint8_t *swap, size_t swap_length,
+                           uint64_t budget,
+                           uint64_t *answer, size_t answer_length);
+
+/* The answer of arm and confirm: one number, the operations done; 0 beside a refusal. */
+#define TAINHOSA_COMMAND_NUMBERS 1
+
+/*
+ * Arms the update that stands in UPDATE, for the next power-up to take or turn down: UPDATE has to be NEW, and BOOT NEW or SUCCESS.
+ * OK: UPDATE's trailer is erased and its status is UPDATING; count[0] is 2.
+ * Refused with 1, 10 or 14: the flash stays as it was.
+ */
+uint32_t tainhosa_arm(size_t sectors, size_t size,
+                      uint8_t *boot, size_t boot_length,
+                      uint8_t *update, size_t update_length,
+                      uint8_t *swap, size_t swap_length,
+                      uint64_t *count, size_t count_length);
+
+/*
+ * Keeps the image that runs on test: BOOT has to be TESTING, UPDATE NEW, and no fallback begun.
+ * OK: BOOT's status is SUCCESS; count[0] is 1.
+ * Refused with 1, 10, 14 or 11: the flash stays as it was.
+ */
+uint32_t tainhosa_confirm(size_t sectors, size_t size,
+                          uint8_t *boot, size_t boot_length,
+                          uint8_t *update, size_t update_length,
+                          uint8_t *swap, size_t swap_length,
+                          uint64_t *count, size_t count_length);
+
+/* ---- SHA-256 */
+
+/*
+ * The SHA-256 digest of the message.
+ * OK: digest (32) holds it.
+ * Refused with 1 only, and then digest stays as it was.
+ */
+uint32_t tainhosa_sha256(const uint8_t *message, size_t message_length,
+                         uint8_t *digest, size_t digest_length);
+
+#ifdef __cplusplus
+}
+#endif
+
+#endif
