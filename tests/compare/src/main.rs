@@ -4,7 +4,26 @@
 mod library;
 mod reference;
 use reference::*;
+use std::collections::BTreeMap;
 use std::fmt::Debug;
+
+/// How often each call gave each answer.
+type Tally = BTreeMap<String, u64>;
+
+fn count(t: &mut Tally, call: &str, answer: String) {
+    *t.entry(format!("{call}: {answer}")).or_insert(0) += 1;
+}
+
+fn number<T>(answer: &Result<T, Refusal>) -> String {
+    answer.as_ref().map_or_else(|e| format!("refused {}", e.number), |_| "done".to_string())
+}
+
+fn outcome(o: Outcome) -> String {
+    match o {
+        Outcome::Refused(n, _, _) => format!("refused {n}"),
+        other => format!("{other:?}"),
+    }
+}
 
 struct Random(u64);
 
@@ -68,12 +87,17 @@ fn loose_header(r: &mut Random, v: &Header) -> Vec<u8> {
         let length = r.below(20);
         tags.push((0x0042, r.bytes(length)));
     }
+    if r.one_in(20) {
+        let again = tags[r.below(tags.len())].clone();
+        tags.push(again);
+    }
     for i in (1..tags.len()).rev() {
         let j = r.below(i + 1);
         tags.swap(i, j);
     }
     let mut b = MAGIC.to_vec();
-    b.extend_from_slice(&v.size.to_le_bytes());
+    let size = if r.one_in(100) { 0 } else { v.size };
+    b.extend_from_slice(&size.to_le_bytes());
     for (kind, value) in tags {
         let padding = if r.one_in(2) { r.below(4) } else { 0 };
         b.resize(b.len() + padding, 0xFF);
@@ -96,7 +120,7 @@ fn mutate(r: &mut Random, b: &mut [u8]) {
     }
 }
 
-fn try_header(r: &mut Random) {
+fn try_header(r: &mut Random, t: &mut Tally) {
     let code = vec![r.next() as u8; 1 + r.below(40)];
     let version = r.next() as u32;
     let v = header(r, &code, version);
@@ -104,7 +128,9 @@ fn try_header(r: &mut Random) {
     mutate(r, &mut b);
     let length = if r.one_in(4) { r.below(b.len() + 1) } else { b.len() };
     b.truncate(length);
-    same("read_header", &b, library::read_header(&b), read_header(&b));
+    let values = read_header(&b);
+    count(t, "read_header", number(&values));
+    same("read_header", &b, library::read_header(&b), values);
     let at = r.below(300);
     let (number, tag) = library::next_tag(&b, at);
     let theirs = if b.len() < HEADER { Err(Refusal { number: 16, place: 0 }) } else { next_tag(&b, at) };
@@ -180,7 +206,7 @@ fn flash(r: &mut Random, g: Geometry) -> Flash {
     f
 }
 
-fn try_flash(r: &mut Random) {
+fn try_flash(r: &mut Random, t: &mut Tally) {
     let g = geometry(r);
     let mut f = flash(r, g);
     let mut asked = g;
@@ -197,19 +223,24 @@ fn try_flash(r: &mut Random) {
     if r.one_in(30) {
         f.swap.push(0);
     }
-    same("check_image", (asked, &f.boot), library::check_image(asked, &f.boot), check_image(asked, &f.boot));
+    let image = check_image(asked, &f.boot);
+    count(t, "check_image", number(&image));
+    same("check_image", (asked, &f.boot), library::check_image(asked, &f.boot), image);
     let budget = if r.one_in(3) { r.next() } else { r.below(9 * g.m() + 6) as u64 };
     let (mut ours, mut theirs) = (f.clone(), f.clone());
     let a = library::power_up(asked, &mut ours, budget);
     let b = power_up(asked, &mut theirs, budget);
+    count(t, "power_up", outcome(b.outcome) + if b.reason.is_some() { ", turned down" } else { "" });
     same("power_up", (asked, budget, &f), (a, ours), (b, theirs));
     let (mut ours, mut theirs) = (f.clone(), f.clone());
     let a = library::arm(asked, &mut ours);
     let b = arm(asked, &mut theirs);
+    count(t, "arm", number(&b));
     same("arm", (asked, &f), (a, ours), (b, theirs));
     let (mut ours, mut theirs) = (f.clone(), f.clone());
     let a = library::confirm(asked, &mut ours);
     let b = confirm(asked, &mut theirs);
+    count(t, "confirm", number(&b));
     same("confirm", (asked, &f), (a, ours), (b, theirs));
 }
 
@@ -345,19 +376,23 @@ fn main() {
         same("sha256", &message, library::sha256(&message), sha256(&message));
     }
     let mut done = 300;
+    let mut tally = Tally::new();
     let mut told = 0;
     while done < calls {
         if r.one_in(2) {
-            try_header(&mut r);
+            try_header(&mut r, &mut tally);
             done += 3;
         } else {
-            try_flash(&mut r);
+            try_flash(&mut r, &mut tally);
             done += 4;
         }
         if done * 20 / calls > told {
             told = done * 20 / calls;
             println!("{done} calls, no difference");
         }
+    }
+    for (what, times) in &tally {
+        println!("{times:9} {what}");
     }
     let mut cuts = 0;
     for m in 1..=4 {
