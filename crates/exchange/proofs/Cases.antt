@@ -309,10 +309,10 @@ flags-by-byte : (u : List ℕ) (b : ℕ) → getD u 766 0 ≡ b → flagsAt thre
 unfolding flagsAt flags flagsFrom flagAt flagByte half firmware
 flags-by-byte u b e = rw e refl
 
-not-11 : (o : Next) (v : Answer ℕ) → outcomeBy o Update v ≡ refusal 11 0 0 → ⊥
-not-11 Nothing (gives v) e = let z : _≡_ {A = ℕ} 0 1 = cc in omega arith
-not-11 Nothing (refused n p) e = let z : _≡_ {A = ℕ} 12 11 = cc in omega arith
-not-11 (Do o) v e = let z : _≡_ {A = ℕ} 0 1 = cc in omega arith
+not-11 : (o : Next) (v : Answer ℕ) (i p : ℕ) → outcomeBy o Update v ≡ refusal 11 i p → ⊥
+not-11 Nothing (gives v) i p e = let z : _≡_ {A = ℕ} 0 1 = cc in omega arith
+not-11 Nothing (refused n q) i p e = let z : _≡_ {A = ℕ} 12 11 = cc in omega arith
+not-11 (Do o) v i p e = let z : _≡_ {A = ℕ} 0 1 = cc in omega arith
 
 -- an exchange that has begun
 abbrev Resumes : Flags → Type 0
@@ -340,8 +340,8 @@ unfolding powerUp decide
 law check R (powerUps update bs y) a = update-case check R bs y a
 law check R (powerUps fallback bs y) a = fallback-case check R bs y a
 law check R (malformed b true) a = λ f budget fit e₁ e₂ e. rw (fit, e₁, e₂, flags-by-byte (f .update) b e ∙ a) refl
-law check R (malformed b false) a = λ f budget fit e₁ e₂ e k.
-    not-11 (nextOperation Update three ((run Update three budget 0 f) .place) ((run Update three budget 0 f) .flash)) (check three ((run Update three budget 0 f) .flash .boot))
+law check R (malformed b false) a = λ f budget fit e₁ e₂ e i p k.
+    not-11 (nextOperation Update three ((run Update three budget 0 f) .place) ((run Update three budget 0 f) .flash)) (check three ((run Update three budget 0 f) .flash .boot)) i p
     (rw (fit, e₁, e₂, flags-by-byte (f .update) b e, resumes-update (shownBy b) (check three (f .update)) (check three (f .boot)) a) at k)
 
 -- the numbers are computed

@@ -31,7 +31,7 @@ shaped-at (at-last b u c le s e₁ e₂ n z) = s .shaped
 shaped-at (at-end b u c y s e₁ e₂ n z) = s
 
 -- begun again: all flags are F, and the images are as at the start
-begun : (x : Exchange) (b : BootStatus) (u : UpdateStatus) (B : Underway x b u) (y z : Answer ℕ) → Images x y z → decideBy b u AllF y z ≡ work (jobOf x) noReason
+pub begun : (x : Exchange) (b : BootStatus) (u : UpdateStatus) (B : Underway x b u) (y z : Answer ℕ) → Images x y z → decideBy b u AllF y z ≡ work (jobOf x) noReason
 begun x b u from-new y z I = rw (I .updateGood, I .bootGood, lt-ltb (I .old) (I .new) (I .newer)) refl
 begun x b u from-success y z I = rw (I .updateGood, I .bootGood, lt-ltb (I .old) (I .new) (I .newer)) refl
 begun x b u from-testing y z I = rw (I .good) refl

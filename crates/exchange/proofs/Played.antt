@@ -18,9 +18,9 @@ use Rattle.exchange.specs.declared.Next.{Next}
 use Rattle.exchange.specs.declared.Next.the-variants.{Nothing}
 use Rattle.exchange.specs.Order.{nextOperation, Run, run}
 use Rattle.exchange.specs.Decision.{Check, noReason, refuse, decide}
-use Rattle.exchange.specs.PowerUp.{refusal, cut, PowerUp, doneOutcome, outcomeBy, worked, idle, carryOut, powerUp, nextIn, nextAfter}
+use Rattle.exchange.specs.PowerUp.{refusal, PowerUp, outcomeBy, worked, idle, carryOut, powerUp, nextIn, nextAfter}
 use Rattle.exchange.specs.LostPower.{Torn, tearNext}
-use Rattle.exchange.specs.Demand.{Exchange, update, fallback, jobOf, ReadsFirmware, Finished, Ending, untorn, lost, Event, Left, isCut, left, EndsAsAllowed, flagRank, FlagMovedOn, FlagNotBack, IsRefusal, MovesOn, Answers}
+use Rattle.exchange.specs.Demand.{Exchange, update, fallback, jobOf, ReadsFirmware, Finished, Ending, untorn, lost, Event, Left, isCut, left, EndsAsAllowed, flagRank, FlagMovedOn, FlagNotBack, IsRefusal, MovesOn, CutOrDone, Answers}
 use Rattle.flash.proofs.Bytes.{sectors-front}
 use Rattle.flash.proofs.Checked.{shaped-of, shaped-fits, same-geometry}
 use Rattle.flash.proofs.Moves.{moved, legMoves, leg-below}
@@ -156,7 +156,7 @@ module _ (check : Check) (g : Geometry) (G : Limits g) (old : Flash) {x : Exchan
   pub record Played (f : Flash) (r : ℕ) (e : Event) : Type 0 where
     pub pays : Paid r (left check f e)
     pub moves : MovesOn check x g f e (e .ending)
-    pub says : Answers check x f e (e .ending)
+    pub says : Answers check x g f e (e .ending)
 
   -- ---- refused
   module _ (g′ : Geometry) (f : Flash) (r : ℕ) (s : Stage g old B f 0 (suc r)) (w : fits g′ f ≡ false) where
@@ -241,19 +241,22 @@ module _ (check : Check) (g : Geometry) (G : Limits g) (old : Flash) {x : Exchan
 
     -- at the end BOOT holds the old UPDATE's firmware, which was good
     pub says-untorn : (b : ℕ) (w : Run) → Walked g old B (suc r) b w
-        → ((worked check g (jobOf x) noReason w) .outcome ≡ cut) ⊎ ((worked check g (jobOf x) noReason w) .outcome ≡ doneOutcome (jobOf x))
+        → CutOrDone x g ((worked check g (jobOf x) noReason w) .outcome) (w .flash)
     says-untorn b w v = by (suc r - w .count) (v .stage)
       where
         goal : Type 0
-        goal = ((worked check g (jobOf x) noReason w) .outcome ≡ cut) ⊎ ((worked check g (jobOf x) noReason w) .outcome ≡ doneOutcome (jobOf x))
+        goal = CutOrDone x g ((worked check g (jobOf x) noReason w) .outcome) (w .flash)
 
         by : (q : ℕ) → Stage g old B (w .flash) (w .place) q → goal
         by zero y =
-            inr (ap₂ (λ (o : Next) (z : Answer ℕ). outcomeBy o (jobOf x) z) (ended g G old B (w .flash) (w .place) y) (end-good (w .flash) (w .place) y .good))
+            inr (
+              ap₂ (λ (o : Next) (z : Answer ℕ). outcomeBy o (jobOf x) z) (ended g G old B (w .flash) (w .place) y) (end-good (w .flash) (w .place) y .good),
+              end-of (w .flash) (w .place) y,
+            )
         by (suc q) y = cuts (step g G old B (w .flash) (w .place) q y)
           where
             cuts : Stepped g old B (w .flash) (w .place) q → goal
-            cuts (stepped o n s′ torn) = inl (ap (λ (z : Next). outcomeBy z (jobOf x) (check g (w .flash .boot))) n)
+            cuts (stepped o n s′ torn) = inl (ap (λ (z : Next). outcomeBy z (jobOf x) (check g (w .flash .boot))) n, unfinished (w .flash) (w .place) q y)
 
     moves-untorn : (b : ℕ) → 3 ≤ b → Finished x g ((run (jobOf x) g b 0 f) .flash) ⊎ FlagMovedOn g f ((run (jobOf x) g b 0 f) .flash)
     moves-untorn b h = by (run (jobOf x) g b 0 f) (walked g G old B b f 0 (suc r) s)
@@ -275,7 +278,7 @@ module _ (check : Check) (g : Geometry) (G : Limits g) (old : Flash) {x : Exchan
       moves = λ n m. subst (λ (a : PowerUp). Finished x g (a .flash) ⊎ FlagMovedOn g f (a .flash)) (sym (works b)) (moves-untorn b (omega arith));
       says = inr (
         shaped-fits g f (shaped-at s),
-        subst (λ (a : PowerUp). (a .outcome ≡ cut) ⊎ (a .outcome ≡ doneOutcome (jobOf x))) (sym (works b))
+        subst (λ (a : PowerUp). CutOrDone x g (a .outcome) (a .flash)) (sym (works b))
             (says-untorn b (run (jobOf x) g b 0 f) (walked g G old B b f 0 (suc r) s)),
       );
     }

@@ -3,6 +3,7 @@ use mathlib.Core.Path.{_≡_, refl, ap, _∙_}
 use mathlib.Core.Logic.{_≢_}
 use mathlib.Core.Bool.{cond}
 use Prim.Native.Nat.{ℕ, _≤_}
+use native.Mathlib.Omega.{arith}
 use Rattle.refusals.specs.Answer.{Answer, gives, refused}
 use Rattle.flash.specs.declared.Geometry.{Geometry}
 use Rattle.flash.specs.declared.SectorNumber.{SectorNumber}
@@ -11,23 +12,27 @@ use Rattle.flash.specs.declared.BootStatus.the-variants.{New as BootNew, Testin
 use Rattle.flash.specs.declared.UpdateStatus.{UpdateStatus}
 use Rattle.flash.specs.declared.UpdateStatus.the-variants.{New as UpdateNew, Updating}
 use Rattle.flash.specs.declared.Leg.{Leg}
+use Rattle.flash.specs.declared.Leg.the-variants.{UpdateToSwap}
 use Rattle.flash.specs.declared.Flags.{Flags}
 use Rattle.flash.specs.declared.Flags.the-variants.{Malformed, AllF, At, All0}
+use Rattle.flash.specs.Sectors.{sectorNumber}
 use Rattle.flash.specs.StatusBytes.{bootStatusAt, updateStatusAt}
 use Rattle.flash.specs.SectorFlags.{flagsAt}
 use Rattle.flash.specs.Buffers.{Flash, fits}
+use Rattle.exchange.specs.declared.Operation.{Operation}
 use Rattle.exchange.specs.declared.Operation.the-variants.{Erase}
 use Rattle.exchange.specs.declared.Next.the-variants.{Do}
 use Rattle.exchange.specs.declared.Job.the-variants.{Update, TurnDown}
 use Rattle.exchange.specs.Operations.{target, perform}
 use Rattle.exchange.specs.Order.{nextOperation, Run, run}
-use Rattle.exchange.specs.Decision.{Check, Reason, because, noReason, Plan, refuse, work, accept, decideUpdate, decideFallback, decideBy, decideStatuses, decide}
-use Rattle.exchange.specs.PowerUp.{PowerUp, powerUp}
-use Rattle.exchange.specs.Demand.{Exchange, update, fallback, jobOf}
+use Rattle.exchange.specs.Decision.{Check, Reason, because, noReason, Plan, refuse, plain, work, accept, decideUpdate, decideFallback, decideBy, decideStatuses, decide}
+use Rattle.exchange.specs.PowerUp.{PowerUp, carryOut, powerUp}
+use Rattle.exchange.specs.Demand.{Exchange, update, fallback, jobOf, Starts}
 use Rattle.exchange.specs.RuledOut.{Reads, Underway, from-new, from-success, from-testing, RuledOut}
 use Rattle.exchange.proofs.Orders.{next-by-reads}
-use Rattle.exchange.proofs.Runs.{run-some, power-up-works}
-use Rattle.exchange.proofs.Accepted.{not-newer, accepted}
+use Rattle.exchange.proofs.Runs.{run-some, run-within, power-up-works}
+use Rattle.exchange.proofs.Accepted.{Images, Armed, boot-new, boot-success, boot-testing, not-newer, accepted}
+use Rattle.exchange.proofs.Decided.{begun}
 
 -- ---- by what is read
 
@@ -48,6 +53,11 @@ accept-bad y z n p e = rw e refl
 
 accept-old : (y z : Answer ℕ) (v w : ℕ) → y ≡ gives v → z ≡ gives w → v ≤ w → accept y z ≡ work TurnDown (because 15 0)
 accept-old y z v w e k h = rw (e, k) (not-newer v w h)
+
+begins : (check : Check) (x : Exchange) (g : Geometry) (f : Flash) (b : BootStatus) (u : UpdateStatus) → Underway x b u → Reads g f b u AllF
+    → Images x (check g (f .update)) (check g (f .boot)) → Starts check x g f
+begins check x g f b u w r I =
+    record { decided = reads-decide check g f b u AllF r ∙ begun x b u w (check g (f .update)) (check g (f .boot)) I; flagsF = r .flags }
 
 -- ---- no image check once a flag is not F
 
@@ -105,18 +115,49 @@ erases-first x g f b u i leg from-new r = next-by-reads (jobOf x) g 0 f b u (At 
 erases-first x g f b u i leg from-success r = next-by-reads (jobOf x) g 0 f b u (At i leg) (r .boot) (r .update) (r .flags)
 erases-first x g f b u i leg from-testing r = next-by-reads (jobOf x) g 0 f b u (At i leg) (r .boot) (r .update) (r .flags)
 
+-- one operation, where the work is decided and its first operation known
+does-first : (check : Check) (x : Exchange) (g : Geometry) (f : Flash) (o : Operation) → decide check g f ≡ work (jobOf x) noReason
+    → nextOperation (jobOf x) g 0 f ≡ Do o → (powerUp check g f 1) .flash ≡ perform g o f
+unfolding run
+does-first check x g f o d n =
+    ap (λ (a : PowerUp). a .flash) (power-up-works check g f 1 (jobOf x) noReason d) ∙ ap (λ (a : Run). a .flash) (run-some (jobOf x) g 0 0 f o n)
+
 top : (check : Check) (x : Exchange) (g : Geometry) (f : Flash) (b : BootStatus) (u : UpdateStatus) (i : SectorNumber) (leg : Leg) → Underway x b u
     → Reads g f b u (At i leg) → (powerUp check g f 1) .flash ≡ perform g (Erase (target leg) i) f
-unfolding run
 top check x g f b u i leg w r =
-    ap (λ (a : PowerUp). a .flash) (power-up-works check g f 1 (jobOf x) noReason
-    (reads-decide check g f b u (At i leg) r ∙ resumes x b u i leg (check g (f .update)) (check g (f .boot)) w))
-    ∙ ap (λ (a : Run). a .flash) (run-some (jobOf x) g 0 0 f (Erase (target leg) i) (erases-first x g f b u i leg w r))
+    does-first check x g f (Erase (target leg) i)
+    (reads-decide check g f b u (At i leg) r ∙ resumes x b u i leg (check g (f .update)) (check g (f .boot)) w) (erases-first x g f b u i leg w r)
+
+erases-swap : (x : Exchange) (g : Geometry) (f : Flash) (bs : Answer BootStatus) (us : Answer UpdateStatus) → bootStatusAt g (f .boot) ≡ bs
+    → updateStatusAt g (f .update) ≡ us → flagsAt g (f .update) ≡ AllF → Armed x bs us
+    → nextOperation (jobOf x) g 0 f ≡ Do (Erase (target UpdateToSwap) (sectorNumber 0))
+erases-swap x g f bs us e₁ e₂ e₃ boot-new = next-by-reads (jobOf x) g 0 f BootNew Updating AllF e₁ e₂ e₃
+erases-swap x g f bs us e₁ e₂ e₃ boot-success = next-by-reads (jobOf x) g 0 f Success Updating AllF e₁ e₂ e₃
+erases-swap x g f bs us e₁ e₂ e₃ boot-testing = next-by-reads (jobOf x) g 0 f Testing UpdateNew AllF e₁ e₂ e₃
+
+top-first : (check : Check) (x : Exchange) (g : Geometry) (f : Flash) → Starts check x g f
+    → (powerUp check g f 1) .flash ≡ perform g (Erase (target UpdateToSwap) (sectorNumber 0)) f
+top-first check x g f s =
+    does-first check x g f (Erase (target UpdateToSwap) (sectorNumber 0)) (s .decided)
+    (erases-swap x g f (bootStatusAt g (f .boot)) (updateStatusAt g (f .update)) refl refl (s .flagsF) ((accepted check x g f s) .armed))
+
+-- ---- the budget
+
+carried-within : (check : Check) (g : Geometry) (f : Flash) (budget : ℕ) (y : Plan) → (carryOut check g f budget y) .count ≤ budget
+carried-within check g f budget (refuse n i p) = omega arith
+carried-within check g f budget plain = omega arith
+carried-within check g f budget (work job why) = run-within job g budget 0 f
+
+within : (check : Check) (g : Geometry) (f : Flash) (budget : ℕ) → (powerUp check g f budget) .count ≤ budget
+unfolding powerUp
+within check g f budget = carried-within check g f budget (decide check g f)
 
 pub ruled-out : RuledOut
 ruled-out = record {
   updateNewer = λ check g f s. (accepted check update g f s) .images;
   fallbackGood = λ check g f s. (accepted check fallback g f s) .images;
+  newerStarts = λ check g f b w r n. begins check update g f b Updating w r n;
+  goodFallbackStarts = λ check g f r y. begins check fallback g f Testing UpdateNew from-testing r y;
   badKeepsReason = λ check g f b n p budget w r e.
       reason-of check g f budget (because n p)
       (reads-decide check g f b Updating AllF r ∙ all-F b (check g (f .update)) (check g (f .boot)) w ∙ accept-bad (check g (f .update)) (check g (f .boot)) n p e);
@@ -127,4 +168,6 @@ ruled-out = record {
   uncheckedInside = unchecked;
   notFailedTest = λ check g f b r. reads-decide check g f b Updating All0 r ∙ all-0-updates b (check g (f .update)) (check g (f .boot));
   topOfLeg = top;
+  topOfFirstLeg = top-first;
+  withinBudget = within;
 }

@@ -1,6 +1,6 @@
 -- Laws of a run of steps, for every job: nothing is next, one more step, two runs one after the other; and the power-up that runs them.
 use mathlib.Core.Path.{_≡_, refl, sym, ap, _∙_}
-use Prim.Native.Nat.{ℕ, zero, suc, _+_}
+use Prim.Native.Nat.{ℕ, zero, suc, _+_, _≤_}
 use native.Mathlib.Omega.{arith}
 use Rattle.flash.specs.declared.Geometry.{Geometry}
 use Rattle.flash.specs.Buffers.{Flash}
@@ -22,6 +22,17 @@ pub run-some : (job : Job) (g : Geometry) (k p : ℕ) (f : Flash) (o : Operation
     → run job g (suc k) p f ≡ oneMore (run job g k (placeAfter o) (perform g o f))
 unfolding run
 run-some job g k p f o e = ap (λ (n : Next). runBy n p f (λ o. run job g k (placeAfter o) (perform g o f))) e
+
+-- no more steps than k
+pub run-within : (job : Job) (g : Geometry) (k p : ℕ) (f : Flash) → (run job g k p f) .count ≤ k
+unfolding run
+run-within job g zero p f = omega arith
+run-within job g (suc k) p f = by (nextOperation job g p f) (λ o. run-within job g k (placeAfter o) (perform g o f))
+  where
+    by : (n : Next) → ((o : Operation) → (run job g k (placeAfter o) (perform g o f)) .count ≤ k)
+        → (runBy n p f (λ o. run job g k (placeAfter o) (perform g o f))) .count ≤ suc k
+    by Nothing ih = omega arith
+    by (Do o) ih = omega (arith, ih o)
 
 -- j steps and then k more are j + k steps
 abbrev pub andThen : Run → Run → Run

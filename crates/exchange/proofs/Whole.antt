@@ -62,7 +62,7 @@ module _ (check : Check) (g : Geometry) (G : Limits g) (old : Flash) {x : Exchan
     stage : Stage g old B (flashAfter check f es) 0 rest
     paid : completed check f es + rest ≤ r + 2 * earlyEnds check f es
     moves : EachMovesOn check x g f es
-    says : EachAnswers check x f es
+    says : EachAnswers check x g f es
     back : NoFlagBack check x g f es
 
   listed : (es : List Event) (f : Flash) (r : ℕ) → Stage g old B f 0 r → Allowed check x g f es → Listed f r es

@@ -101,7 +101,7 @@ pub record LeavesAs (check : Check) (f : Flash) (bs : List ℕ) (l : Leaves) : T
 
 abbrev pub Is11 : Bool → Outcome → Type 0
 Is11 true o = o ≡ refusal 11 0 0
-Is11 false o = ¬ (o ≡ refusal 11 0 0)
+Is11 false o = (i p : ℕ) → ¬ (o ≡ refusal 11 i p)
 
 -- What a case says, of every flash that it speaks of.
 abbrev pub Holds : Check → ExchangeCase → Type 0

@@ -33,12 +33,13 @@ abbrev pub command : Geometry → List Operation → Answer (Unit {0}) → Flash
 command g os (gives t) f = record { answer = gives (length os); flash = performAll g os f }
 command g os (refused n p) f = record { answer = refused n p; flash = f }
 
--- The checks that both begin with: geometry and lengths, then the statuses, BOOT's first; then `rest`.
+-- The statuses, BOOT's first; then `rest`.
 abbrev pub withStatuses : Answer BootStatus → Answer UpdateStatus → (BootStatus → UpdateStatus → Answer (Unit {0})) → Answer (Unit {0})
 withStatuses (refused n p) u rest = refused n p
 withStatuses (gives b) (refused n p) rest = refused n p
 withStatuses (gives b) (gives u) rest = rest b u
 
+-- The checks that both begin with: geometry and lengths, the statuses; then `rest`.
 abbrev pub checked : Geometry → Flash → (BootStatus → UpdateStatus → Answer (Unit {0})) → Answer (Unit {0})
 checked g f rest = cond (fits g f) (withStatuses (bootStatusAt g (f .boot)) (updateStatusAt g (f .update)) rest) (refused 1 0)
 

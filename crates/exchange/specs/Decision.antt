@@ -21,16 +21,10 @@ use Rattle.exchange.specs.declared.Job.the-variants.{Update, Fallback, T
 abbrev pub Check : Type 0
 Check = Geometry → List ℕ → Answer ℕ
 
--- Why an update was turned down: a number and its place; 0 and 0 where there is none.
-pub record Reason : Type 0 where
-  pub number : ℕ
-  pub place : ℕ
-
-abbrev pub because : ℕ → ℕ → Reason
-because n p = record { number = n; place = p }
-
-abbrev pub noReason : Reason
-noReason = because 0 0
+-- Why an update was turned down: a number and its place. Other power-ups have no reason.
+pub data Reason : Type 0 where
+  noReason : Reason
+  because : ℕ → ℕ → Reason
 
 -- What is decided: a refusal (number, and the number and place of a bad image within it), Plain, or a job with its reason.
 pub data Plan : Type 0 where
@@ -63,7 +57,7 @@ decideFallback AllF u = acceptFallback u
 decideFallback (At i leg) u = work Fallback noReason
 decideFallback All0 u = work Fallback noReason
 
--- With both UPDATING and TESTING only the end of an update can be left: flags that are not all 0 are 11.
+-- With both UPDATING and TESTING only the end of an update can be left: unless every flag is 0 it is 11.
 abbrev pub decideClosing : Flags → Plan
 decideClosing Malformed = refuse 11 0 0
 decideClosing AllF = refuse 11 0 0

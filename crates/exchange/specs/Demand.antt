@@ -107,7 +107,7 @@ abbrev pub EndsAsAllowed : Check → Geometry → Flash → Event → Ending →
 EndsAsAllowed check g f e untorn = Unit {0}
 EndsAsAllowed check g f e (lost k t) = (k ≤ (answer check f e) .count) × (length (t .bytes) ≡ g .size)
 
--- The lists that 01 allows from the flash f: each power-up finds the bytes that the last one left, and none comes after the finish.
+-- The lists that 01 allows from the flash f. The flash goes from one power-up to the next, and none comes after the finish.
 unfoldable pub Allowed : Check → Exchange → Geometry → Flash → List Event → Type 0
 Allowed check x g f [] = Unit {0}
 Allowed check x g f (e ∷ es) =
@@ -191,17 +191,20 @@ unfoldable pub EachMovesOn : Check → Exchange → Geometry → Flash → List 
 EachMovesOn check x g f [] = Unit {0}
 EachMovesOn check x g f (e ∷ es) = MovesOn check x g f e (e .ending) × EachMovesOn check x g ((left check f e) .flash) es
 
--- What an untorn power-up answers: refusal 1 for a wrong geometry or length, which is the only refusal; else "cut", or the outcome of
--- an exchange that is done.
-abbrev pub Answers : Check → Exchange → Flash → Event → Ending → Type 0
-Answers check x f e untorn =
-    ((fits (e .geometry) f ≡ false) × ((answer check f e) .outcome ≡ refusal 1 0 0))
-    ⊎ ((fits (e .geometry) f ≡ true) × (((answer check f e) .outcome ≡ cut) ⊎ ((answer check f e) .outcome ≡ doneOutcome (jobOf x))))
-Answers check x f e (lost k t) = Unit {0}
+-- An answer beside the flash that is left: "cut" before the finish, and at the finish the outcome of an exchange that is done.
+abbrev pub CutOrDone : Exchange → Geometry → Outcome → Flash → Type 0
+CutOrDone x g o f = ((o ≡ cut) × (¬ Finished x g f)) ⊎ ((o ≡ doneOutcome (jobOf x)) × Finished x g f)
 
-unfoldable pub EachAnswers : Check → Exchange → Flash → List Event → Type 0
-EachAnswers check x f [] = Unit {0}
-EachAnswers check x f (e ∷ es) = Answers check x f e (e .ending) × EachAnswers check x ((left check f e) .flash) es
+-- What an untorn power-up answers: refusal 1 for a wrong geometry or length, which is the only refusal; else by what it leaves.
+abbrev pub Answers : Check → Exchange → Geometry → Flash → Event → Ending → Type 0
+Answers check x g f e untorn =
+    ((fits (e .geometry) f ≡ false) × ((answer check f e) .outcome ≡ refusal 1 0 0))
+    ⊎ ((fits (e .geometry) f ≡ true) × CutOrDone x g ((answer check f e) .outcome) ((left check f e) .flash))
+Answers check x g f e (lost k t) = Unit {0}
+
+unfoldable pub EachAnswers : Check → Exchange → Geometry → Flash → List Event → Type 0
+EachAnswers check x g f [] = Unit {0}
+EachAnswers check x g f (e ∷ es) = Answers check x g f e (e .ending) × EachAnswers check x g ((left check f e) .flash) es
 
 -- What an exchange of m firmware sectors takes at most if nothing disturbs it: nine operations for each sector, and those that close
 -- it, three of an update and one of a fallback.
@@ -221,7 +224,7 @@ bootAtFinish fallback = Success
 
 -- All that is claimed of a list, as one claim.
 pub record Safe (check : Check) (x : Exchange) (g : Geometry) (f : Flash) (es : List Event) : Type 0 where
-  -- until the finish each old firmware sector of BOOT and of UPDATE is in its place
+  -- before the finish: where the old sectors stand
   pub inPlace : ¬ Finished x g (flashAfter check f es) → (i : ℕ) → i < firmware g → InPlace g f (flashAfter check f es) i
   -- the bound on completed operations: an early end costs two more at most, those of a leg that is begun again
   pub bounded : completed check f es ≤ most x (firmware g) + 2 * earlyEnds check f es
@@ -234,7 +237,7 @@ pub record Safe (check : Check) (x : Exchange) (g : Geometry) (f : Flash) (es : 
   pub bootStatus : Finished x g (flashAfter check f es) → bootStatusAt g (flashAfter check f es .boot) ≡ gives (bootAtFinish x)
   pub updateStatus : Finished x g (flashAfter check f es) → updateStatusAt g (flashAfter check f es .update) ≡ gives UpdateNew
   -- what each power-up answers
-  pub answers : EachAnswers check x f es
+  pub answers : EachAnswers check x g f es
 
 -- For every image check that reads the firmware sectors only, every start and every list that 01 allows from there.
 abbrev pub Demand3 : Type 0

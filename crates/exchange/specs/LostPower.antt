@@ -21,8 +21,8 @@ pub record Torn : Type 0 where
   pub bytes : List ℕ
   pub new : Bool
 
--- A torn erase or copy of a firmware or SWAP sector leaves any bytes in that sector. A flag, a status byte and a trailer sector hold
--- all of their old or all of their new bytes.
+-- Of a torn erase or copy the sector that it writes holds whatever bytes. A flag, a status byte and a trailer sector hold what stood
+-- there before or what was to stand there.
 abbrev pub performTorn : Geometry → Torn → Operation → Flash → Flash
 performTorn g t (Erase a i) f = put g a (i .0) (t .bytes) f
 performTorn g t (Copy leg i) f = put g (target leg) (i .0) (t .bytes) f

@@ -54,7 +54,7 @@ worked check g job reason r =
 abbrev pub idle : Outcome → Flash → PowerUp
 idle o f = record { outcome = o; reason = noReason; count = 0; flash = f }
 
--- Each power-up starts at the top of a leg, place 0.
+-- Work begins at place 0, the top of a leg, in every call.
 abbrev pub carryOut : Check → Geometry → Flash → ℕ → Plan → PowerUp
 carryOut check g f budget (refuse n i p) = idle (refusal n i p) f
 carryOut check g f budget plain = idle (ifBootGood runs (check g (f .boot))) f

@@ -11,8 +11,10 @@ use Rattle.flash.specs.declared.BootStatus.the-variants.{New as BootNew, Testin
 use Rattle.flash.specs.declared.UpdateStatus.{UpdateStatus}
 use Rattle.flash.specs.declared.UpdateStatus.the-variants.{New as UpdateNew, Updating}
 use Rattle.flash.specs.declared.Leg.{Leg}
+use Rattle.flash.specs.declared.Leg.the-variants.{UpdateToSwap}
 use Rattle.flash.specs.declared.Flags.{Flags}
 use Rattle.flash.specs.declared.Flags.the-variants.{AllF, At, All0}
+use Rattle.flash.specs.Sectors.{sectorNumber}
 use Rattle.flash.specs.StatusBytes.{bootStatusAt, updateStatusAt}
 use Rattle.flash.specs.SectorFlags.{flagsAt}
 use Rattle.flash.specs.Buffers.{Flash, fits}
@@ -36,7 +38,7 @@ pub data Underway : Exchange → BootStatus → UpdateStatus → Type 0 where
   from-success : Underway update Success Updating
   from-testing : Underway fallback Testing UpdateNew
 
--- By the image checks of UPDATE and of BOOT: both are good, and UPDATE's version is greater; or only that UPDATE is good.
+-- By the image checks of UPDATE and of BOOT: both are good, and UPDATE's version is greater.
 pub record Newer (u b : Answer ℕ) : Type 0 where
   pub new : ℕ
   pub old : ℕ
@@ -44,6 +46,7 @@ pub record Newer (u b : Answer ℕ) : Type 0 where
   pub bootGood : b ≡ gives old
   pub newer : old < new
 
+-- UPDATE is good, whatever its version.
 pub record Good (u : Answer ℕ) : Type 0 where
   pub version : ℕ
   pub good : u ≡ gives version
@@ -52,6 +55,10 @@ pub record RuledOut : Type 0 where
   -- no update is begun that is bad or not newer, or over a bad BOOT; no fallback to a bad UPDATE
   pub updateNewer : (check : Check) (g : Geometry) (f : Flash) → Starts check update g f → Newer (check g (f .update)) (check g (f .boot))
   pub fallbackGood : (check : Check) (g : Geometry) (f : Flash) → Starts check fallback g f → Good (check g (f .update))
+  -- and each such update and fallback is begun
+  pub newerStarts : (check : Check) (g : Geometry) (f : Flash) (b : BootStatus) → Underway update b Updating → Reads g f b Updating AllF
+      → Newer (check g (f .update)) (check g (f .boot)) → Starts check update g f
+  pub goodFallbackStarts : (check : Check) (g : Geometry) (f : Flash) → Reads g f Testing UpdateNew AllF → Good (check g (f .update)) → Starts check fallback g f
   -- an update that is turned down keeps its reason, whatever the budget and the outcome: the refusal of its image, or 15
   pub badKeepsReason : (check : Check) (g : Geometry) (f : Flash) (b : BootStatus) (n p budget : ℕ) → Underway update b Updating → Reads g f b Updating AllF
       → check g (f .update) ≡ refused n p → (powerUp check g f budget) .reason ≡ because n p
@@ -64,3 +71,8 @@ pub record RuledOut : Type 0 where
   -- a power-up begins with the first operation of the leg, and trusts no sector that was copied in part
   pub topOfLeg : (check : Check) (x : Exchange) (g : Geometry) (f : Flash) (b : BootStatus) (u : UpdateStatus) (i : SectorNumber) (leg : Leg) → Underway x b u
       → Reads g f b u (At i leg) → (powerUp check g f 1) .flash ≡ perform g (Erase (target leg) i) f
+  -- the same where all flags are F: the first leg of sector 0
+  pub topOfFirstLeg : (check : Check) (x : Exchange) (g : Geometry) (f : Flash) → Starts check x g f
+      → (powerUp check g f 1) .flash ≡ perform g (Erase (target UpdateToSwap) (sectorNumber 0)) f
+  -- no more operations than the budget
+  pub withinBudget : (check : Check) (g : Geometry) (f : Flash) (budget : ℕ) → (powerUp check g f budget) .count ≤ budget

@@ -1,4 +1,4 @@
--- Flags move on as F, 7, 3, 0. After a moves from all F, sector by sector, sector j has a - 3 j moves behind it.
+-- Each flag makes three moves, from F to 0. After a moves from all F, sector by sector, sector j has a - 3 j moves behind it.
 use mathlib.Core.Path.{_≡_, refl, sym, ap, _∙_}
 use mathlib.Core.List.{List}
 use Prim.Native.Nat.{ℕ, zero, suc, _+_, _-_, _*_, _≤_, _<_}

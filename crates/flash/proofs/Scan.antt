@@ -42,7 +42,7 @@ module _ (g : Geometry) (u : List ℕ) (m i : ℕ) (h : i < m) (v : FlagRead) (e
   unfolding allF
   allF-not k = rw (flags-more g u m i h, ← e, k) refl
 
-  -- some 0s, then at most one 7 or 3, then F only
+  -- the well-formed flags
   zeros-here : pastZeros i (flagsFrom g u (m - i) i)
       ≡ byFlag i v (allF (flagsFrom g u (m - (i + 1)) (i + 1))) (pastZeros (i + 1) (flagsFrom g u (m - (i + 1)) (i + 1)))
   unfolding pastZeros

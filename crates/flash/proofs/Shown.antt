@@ -63,7 +63,7 @@ each-from g u (suc k) i e j a b = by (ℕ-discrete i j) (λ e′ a′ b′. each
     by (yes q) more = ap (flagAt g u) (sym q) ∙ is-untouched (flagAt g u i) (t .0)
     by (no q) more = more (t .1) (omega arith) (omega arith)
 
--- ---- some 0s, then at most one 7 or 3, then F only
+-- ---- well-formed flags
 
 -- the flag that shows a leg
 abbrev pub legFlag : Leg → Flag

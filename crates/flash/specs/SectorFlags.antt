@@ -49,7 +49,7 @@ flagAt g u i = flagOf (half i (getD u (flagByte g i) 0))
 unfoldable pub setFlag : Geometry → ℕ → Flag → List ℕ → List ℕ
 setFlag g i v u = set u (flagByte g i) (withHalf i (getD u (flagByte g i) 0) (flagValue v))
 
--- the flags of k sectors from sector i on; and of the firmware sectors, so that for odd m the unused half byte is not read
+-- the flags of k sectors from sector i on; and of the firmware sectors, so that a half byte behind the last one is never looked at
 unfoldable pub flagsFrom : Geometry → List ℕ → ℕ → ℕ → List FlagRead
 flagsFrom g u zero i = []
 flagsFrom g u (suc k) i = flagAt g u i ∷ flagsFrom g u k (suc i)

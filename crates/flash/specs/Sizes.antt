@@ -35,7 +35,7 @@ pub record Limits (g : Geometry) : Type 0 where
   pub small : 256 ≤ g .size
   pub large : g .size ≤ 131072
   pub unit : g .size % 256 ≡ 0
-  -- the trailer fits one sector: today it follows from the others
+  -- the trailer fits one sector, which follows from the other limits
   pub trailer : trailerLength g ≤ g .size
 
 -- what is outside the limits is refusal 1

@@ -1,4 +1,4 @@
--- Document 01, "The flash": the status byte, the last of a partition. BOOT's and UPDATE's have each their own values.
+-- Document 01, "The flash": the status byte, the last of a partition. BOOT and UPDATE each have their own values.
 use mathlib.Core.Bool.{cond}
 use mathlib.Core.List.{List}
 use Prim.Native.Nat.{ℕ, _-_}

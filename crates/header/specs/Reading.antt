@@ -79,7 +79,7 @@ valuesAt h places =
       hint = cond hintless (replicate 32 0) (value h places 5);
     }
 
--- The reader's order: 16, 2, 3 (zero only), then the walk. The header is the first 256 bytes.
+-- The reader's refusals in their order; of 3 only a size of 0 is told here. The header is the first 256 bytes.
 unfoldable pub readHeader : List ℕ → Answer Header
 readHeader s =
     let h = take 256 s in

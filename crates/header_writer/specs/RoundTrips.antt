@@ -42,7 +42,7 @@ carried v =
 abbrev pub WriteThenRead : Type 0
 WriteThenRead = (v : Header) (rest : List ℕ) → Holdable v → readHeader (headerBytes v ++ rest) ≡ gives (carried v)
 
--- Read, write, read gives the first values again, for every buffer of bytes that is read.
+-- What was read, once written, reads the same: for every buffer of bytes that the reader accepts.
 abbrev pub ReadWriteRead : Type 0
 ReadWriteRead =
     (s : List ℕ) → ((i : ℕ) → getD s i 0 < 256) → (v : Header) → readHeader s ≡ gives v

@@ -58,7 +58,7 @@ pub record Write : Type 0 where
 abbrev pub write : Answer (Unit {0}) → List ℕ → Write
 write a l = record { answer = a; bytes = l }
 
--- The writer's order: 16, 3 (zero only); a refusal changes no byte. It writes the first 256 bytes and no other.
+-- 16 comes before a size of 0, which is 3; both leave the output alone. Else its first 256 bytes are the header, and the rest stays.
 unfoldable pub writeHeader : Header → List ℕ → Write
 writeHeader v out =
     cond (ltb (length out) 256) (write (refused 16 0) out)

@@ -22,7 +22,7 @@ use Rattle.flash.specs.Buffers.{partitionOf}
 use Rattle.image.specs.declared.ImageOutcome.{ImageOutcome}
 use Rattle.image.specs.declared.ImageOutcome.the-variants.{Good, OutsideRules, BadHeader, TooLarge, WrongDigest}
 use Rattle.image.specs.declared.ImageAnswer.{ImageAnswer}
-use Rattle.image.specs.Check.{answerOf, same, covered, judged, imageIn, checkImage, Checks}
+use Rattle.image.specs.Check.{badHeader, answerOf, same, covered, judged, imageIn, checkImage, Checks}
 
 -- ---- the same bytes
 
@@ -71,7 +71,7 @@ module _ (b : List ℕ) (h : HeaderAnswer) (reads : Reads b h) where
   unfolding imageIn
   bad-header {r} not w =
       let q = refusing (h .outcome) not in
-      turned w (q .is (r .header)) (ap (λ (a : Answer Header). then a (judged b)) (sym (reads .outcome) ∙ q .is (h .header)))
+      turned w (ap badHeader (q .is tt)) (ap (λ (a : Answer Header). then a (judged b)) (sym (reads .outcome) ∙ q .is (h .header)))
 
   module _ (is : h .outcome ≡ Accepted) where
     read : readHeader b ≡ gives (h .header)

@@ -17,11 +17,16 @@ use Rattle.image.specs.declared.ImageOutcome.{ImageOutcome}
 use Rattle.image.specs.declared.ImageOutcome.the-variants.{Good, OutsideRules, BadHeader, TooLarge, WrongDigest}
 use Rattle.image.specs.declared.ImageAnswer.{ImageAnswer}
 
--- The paper's number and place for each case of the code's outcome. A bad header has the reader's own.
+-- A bad header has the reader's own refusal. An accepted header is not bad: the 0 that stands for it is no number of 01.
+abbrev pub badHeader : {A : Type 0} → Answer (Unit {0}) → Answer A
+badHeader (gives t) = refused 0 0
+badHeader (refused n p) = refused n p
+
+-- The paper's number and place for each case of the code's outcome.
 abbrev pub answerOf : {A : Type 0} → ImageOutcome → A → Answer A
 answerOf Good a = gives a
 answerOf OutsideRules a = refused 1 0
-answerOf (BadHeader o) a = header.answerOf o a
+answerOf (BadHeader o) a = badHeader (header.answerOf o tt)
 answerOf TooLarge a = refused 3 4
 answerOf WrongDigest a = refused 9 256
 

@@ -5,7 +5,6 @@ use Prim.Native.Nat.{ℕ}
 use Rattle.refusals.specs.Answer.{Answer, gives, refused, then}
 use Rattle.header.specs.declared.Header.{Header}
 use Rattle.header.specs.declared.HeaderOutcome.{HeaderOutcome}
-use Rattle.header.specs.declared.HeaderOutcome.the-variants.{Accepted, TooShort, WrongMagic, ZeroSize, TagDoesNotFit, WrongLength, Repeated, NoEnd, Missing}
 use Rattle.header.specs.Reading as header
 use Rattle.flash.specs.declared.Geometry.{Geometry}
 use Rattle.flash.specs.declared.BootStatus.{BootStatus}
@@ -18,7 +17,7 @@ use Rattle.flash.specs.StatusBytes.{bootStatusAt, updateStatusAt}
 use Rattle.image.specs.declared.ImageAnswer.{ImageAnswer}
 use Rattle.image.specs.declared.ImageOutcome.{ImageOutcome}
 use Rattle.image.specs.declared.ImageOutcome.the-variants.{Good as GoodImage, OutsideRules, BadHeader, TooLarge, WrongDigest}
-use Rattle.image.specs.Check.{answerOf, imageIn, Checks}
+use Rattle.image.specs.Check.{badHeader, answerOf, imageIn, Checks}
 use Rattle.exchange.specs.declared.Job.{Job}
 use Rattle.exchange.specs.declared.Next.{Next}
 use Rattle.exchange.specs.declared.Next.the-variants.{Nothing}
@@ -28,40 +27,29 @@ use Rattle.exchange.specs.Commands.{withStatuses, mayArm, mayConfirm}
 use Rattle.loader.specs.declared.reading.Verdict.the-variants.{Bad}
 use Rattle.loader.specs.declared.reading.Statuses.{Statuses}
 use Rattle.loader.specs.declared.reading.Statuses.the-variants.{Allowed, NotAllowed}
-use Rattle.loader.specs.Loader.{checkOf}
+use Rattle.loader.specs.Loader.{checkOf, own}
 use Rattle.loader.specs.Parts.{verdictOf, statusesOf, bothStatuses}
 
 -- ---- the image check
 
-pub bad-header : (h : HeaderOutcome) (v : ℕ) → (h ≡ Accepted → ⊥) → verdictOf (Bad (BadHeader h)) ≡ answerOf (BadHeader h) v
-bad-header Accepted v x = absurd (x refl)
-bad-header TooShort v x = refl
-bad-header WrongMagic v x = refl
-bad-header ZeroSize v x = refl
-bad-header (TagDoesNotFit p) v x = refl
-bad-header (WrongLength p) v x = refl
-bad-header (Repeated p) v x = refl
-bad-header (NoEnd p) v x = refl
-bad-header (Missing t) v x = refl
+bad-own : (x : Answer (Unit {0})) → refused (own (badHeader x) .number) (own (badHeader x) .place) ≡ badHeader {A = ℕ} x
+bad-own (gives t) = refl
+bad-own (refused n p) = refl
+
+pub bad-header : (h : HeaderOutcome) (v : ℕ) → verdictOf (Bad (BadHeader h)) ≡ answerOf (BadHeader h) v
+bad-header h v = bad-own (header.answerOf h tt)
 
 abbrev version : Header → Answer ℕ
 version h = gives (h .version)
 
-header-version : (o : HeaderOutcome) (h : Header) → header.answerOf o (h .version) ≡ then (header.answerOf o h) version
-header-version Accepted h = refl
-header-version TooShort h = refl
-header-version WrongMagic h = refl
-header-version ZeroSize h = refl
-header-version (TagDoesNotFit p) h = refl
-header-version (WrongLength p) h = refl
-header-version (Repeated p) h = refl
-header-version (NoEnd p) h = refl
-header-version (Missing t) h = refl
+bad-version : (x : Answer (Unit {0})) → badHeader x ≡ then (badHeader x) version
+bad-version (gives t) = refl
+bad-version (refused n p) = refl
 
 image-version : (o : ImageOutcome) (h : Header) → answerOf o (h .version) ≡ then (answerOf o h) version
 image-version GoodImage h = refl
 image-version OutsideRules h = refl
-image-version (BadHeader o) h = header-version o h
+image-version (BadHeader o) h = bad-version (header.answerOf o tt)
 image-version TooLarge h = refl
 image-version WrongDigest h = refl
 

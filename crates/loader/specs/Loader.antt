@@ -27,12 +27,17 @@ use Rattle.loader.specs.declared.CommandAnswer.the-variants.{Done, Refus
 unfoldable pub checkOf : Check
 checkOf g l = then (imageIn (firmwareOf g l)) (λ h. gives (h .version))
 
--- An image's own number and place, which 12, 13 and a turning-down reason carry. A good image has none.
-abbrev pub own : Answer (Unit {0}) → decision.Reason
-own (gives t) = noReason
-own (refused n p) = because n p
+-- A bad image's own number and place, which 12, 13 and a turning-down reason carry. For a good image, which none of them is about, 0
+-- stands there, which is no number of 01.
+pub record Own : Type 0 where
+  pub number : ℕ
+  pub place : ℕ
 
-abbrev pub ownOf : ImageOutcome → decision.Reason
+abbrev pub own : Answer (Unit {0}) → Own
+own (gives t) = record { number = 0; place = 0 }
+own (refused n p) = record { number = n; place = p }
+
+abbrev pub ownOf : ImageOutcome → Own
 ownOf o = own (answerOf o tt)
 
 -- "Numbers given back", of a power-up: a number, and the own number and place of a bad image within it, else 0 and 0.
@@ -65,7 +70,7 @@ outcomeOf RunFallenBack = runsFallenBack
 -- "Turning down": its reason, UPDATE's own refusal or 15.
 abbrev pub reasonOf : Reason → decision.Reason
 reasonOf None = noReason
-reasonOf (BadUpdate o) = ownOf o
+reasonOf (BadUpdate o) = because (ownOf o .number) (ownOf o .place)
 reasonOf NotNewer = because 15 0
 
 -- What a power-up answers, and the flash that it leaves.

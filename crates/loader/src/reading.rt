@@ -4,7 +4,6 @@ use flash::BootStatusAnswer;
 use flash::Geometry;
 use flash::UpdateStatus;
 use flash::UpdateStatusAnswer;
-use header::HeaderOutcome;
 use image::ImageOutcome;
 ghost use mathlib.Core.Path.{_≡_};
 ghost use Rattle.flash.specs.Sectors.{Partition};
@@ -19,19 +18,14 @@ pub enum Verdict {
     Bad(ImageOutcome),
 }
 
-// A header that was accepted is no bad one.
+// The verdict by the check's outcome.
 fn verdict_on(outcome: ImageOutcome, version: u32) -> Verdict
     ensures { λ r. ⌜ verdictOf r ≡ answerOf outcome version ⌝ }
 {
     match outcome {
         ImageOutcome::Good => Verdict::Good(version),
         ImageOutcome::OutsideRules => Verdict::Bad(outcome),
-        ImageOutcome::BadHeader(h) => {
-            if let HeaderOutcome::Accepted = h {
-                return Verdict::Good(version);
-            }
-            Verdict::Bad(outcome)
-        }
+        ImageOutcome::BadHeader(_) => Verdict::Bad(outcome),
         ImageOutcome::TooLarge => Verdict::Bad(outcome),
         ImageOutcome::WrongDigest => Verdict::Bad(outcome),
     }

@@ -33,7 +33,7 @@ itemAt h p =
     (cond (ltb (length h - p) 4) (refused 4 p)
     (cond (ltb (length h - p - 4) (lengthAt h p)) (refused 4 p) (gives (tag p (typeAt h p) (lengthAt h p))))))
 
--- The same from p on, with n bytes left: a byte FF is padding, go to p + 1; the header's length without an end is refusal 7.
+-- The same from p on, with n bytes left: over padding, which is FF, one byte at a time; nothing left and no end is refusal 7.
 unfoldable pub itemFrom : List ℕ → ℕ → ℕ → Answer Item
 itemFrom h zero p = refused 7 (length h)
 itemFrom h (suc n) p = elim (eqb (getD h p 0) 0xFF) [ true ↦ itemFrom h n (p + 1) | false ↦ itemAt h p ]

@@ -44,10 +44,14 @@ header-refusal (Repeated p) v = refl
 header-refusal (NoEnd p) v = refl
 header-refusal (Missing t) v = refl
 
+pub bad-is : (A : Type 0) (x : Answer (Unit {0})) → refusalOf x ≡ refusalOf (image.badHeader {A = A} x)
+bad-is A (gives t) = refl
+bad-is A (refused n p) = refl
+
 image-refusal : (o : ImageOutcome) (v : Header) → imageRefusal o ≡ refusalOf (image.answerOf o v)
 image-refusal Good v = refl
 image-refusal OutsideRules v = refl
-image-refusal (BadHeader h) v = header-refusal h v
+image-refusal (BadHeader h) v = sym (bad-is (Unit {0}) (header.answerOf h tt)) ∙ bad-is Header (header.answerOf h tt)
 image-refusal TooLarge v = refl
 image-refusal WrongDigest v = refl
 

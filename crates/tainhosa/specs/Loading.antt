@@ -8,6 +8,7 @@ use Rattle.refusals.specs.Answer.{Answer, gives, refused}
 use Rattle.flash.specs.Sizes.{geometry}
 use Rattle.flash.specs.Buffers.{Flash}
 use Rattle.exchange.specs.Decision as decision
+use Rattle.exchange.specs.Decision.{noReason, because}
 use Rattle.exchange.specs.PowerUp.{Outcome, refusal, cut, runs, runsOnTest, runsFallenBack, PowerUp, powerUp}
 use Rattle.exchange.specs.Commands.{Command, arm, confirm}
 use Rattle.loader.specs.Loader.{checkOf}
@@ -30,7 +31,8 @@ endedOf runsFallenBack = ended 4 0 (refusedAt 0 0)
 
 -- A turning-down reason's number and place; 0 and 0 where there is none.
 abbrev pub reasonRefusal : decision.Reason → Refused
-reasonRefusal r = refusedAt (r .number) (r .place)
+reasonRefusal noReason = refusedAt 0 0
+reasonRefusal (because n p) = refusedAt n p
 
 -- Outcome, count, inner number and place, the reason's number and place.
 abbrev pub powerRow : Ended → ℕ → Refused → List ℕ

@@ -1,4 +1,4 @@
-// The walk over a header's tags, as a walker that carries the lent header and its place.
+// The walk over a header's tags as a struct: it holds the lent slice and where it stands.
 ghost use mathlib.Core.Path.{_≡_};
 ghost use Rattle.tags.specs.Walk.{firstTag, itemOf, walkAt};
 ghost use Rattle.walker.specs.Walker.{startOf, answerOf, afterOf};

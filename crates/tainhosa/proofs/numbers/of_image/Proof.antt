@@ -1,3 +1,6 @@
+use mathlib.Core.Path.{_∙_}
+use Rattle.header.specs.Reading as header
+use Rattle.tainhosa.proofs.Answers.{bad-is}
 use borrow.Author.Needs.{needs}
 use Rattle.tainhosa.proofs.numbers.of_image.Statement.{statement}
 use Rattle.tainhosa.proofs.numbers.of_image.Tie as tie
@@ -7,6 +10,9 @@ returns c = rw (c .before .enum-told .given .1) (c .refuse .ensures)
 
 returns-2 : tie.Need-returns-2
 returns-2 c = rw (c .before .enum-told2 .given .1) (c .refuse2 .ensures)
+
+returns-3 : tie.Need-returns-3
+returns-3 c = let o = c .before .before .o .given in rw (o .1) (c .of-header .ensures ∙ bad-is (Unit {0}) (header.answerOf (o .0 .0) tt))
 
 returns-4 : tie.Need-returns-4
 returns-4 c = rw (c .before .enum-told3 .given .1) (c .refuse3 .ensures)
@@ -30,6 +36,6 @@ of-image-spec =
     (λ c κs. search needs)
     returns
     returns-2
-    (λ c. search needs)
+    returns-3
     returns-4
     returns-5)
