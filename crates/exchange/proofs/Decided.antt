@@ -37,7 +37,7 @@ begun x b u from-success y z I = rw (I .updateGood, I .bootGood, lt-ltb (I .old)
 begun x b u from-testing y z I = rw (I .good) refl
 
 -- resumed: some flag is not F, and no image is checked
-resumed : (x : Exchange) (b : BootStatus) (u : UpdateStatus) (B : Underway x b u) (i : SectorNumber) (leg : Leg) (y z : Answer ℕ)
+pub resumed : (x : Exchange) (b : BootStatus) (u : UpdateStatus) (B : Underway x b u) (i : SectorNumber) (leg : Leg) (y z : Answer ℕ)
     → decideBy b u (At i leg) y z ≡ work (jobOf x) noReason
 resumed x b u from-new i leg y z = refl
 resumed x b u from-success i leg y z = refl

@@ -32,7 +32,7 @@ use Rattle.exchange.specs.RuledOut.{Reads, Underway, from-new, from-succ
 use Rattle.exchange.proofs.Orders.{next-by-reads}
 use Rattle.exchange.proofs.Runs.{run-some, run-within, power-up-works}
 use Rattle.exchange.proofs.Accepted.{Images, Armed, boot-new, boot-success, boot-testing, not-newer, accepted}
-use Rattle.exchange.proofs.Decided.{begun}
+use Rattle.exchange.proofs.Decided.{begun, resumed}
 
 -- ---- by what is read
 
@@ -103,12 +103,6 @@ all-0-updates Success y z = refl
 
 -- ---- the top of a leg
 
-resumes : (x : Exchange) (b : BootStatus) (u : UpdateStatus) (i : SectorNumber) (leg : Leg) (y z : Answer ℕ) → Underway x b u
-    → decideBy b u (At i leg) y z ≡ work (jobOf x) noReason
-resumes x b u i leg y z from-new = refl
-resumes x b u i leg y z from-success = refl
-resumes x b u i leg y z from-testing = refl
-
 erases-first : (x : Exchange) (g : Geometry) (f : Flash) (b : BootStatus) (u : UpdateStatus) (i : SectorNumber) (leg : Leg) → Underway x b u → Reads g f b u (At i leg)
     → nextOperation (jobOf x) g 0 f ≡ Do (Erase (target leg) i)
 erases-first x g f b u i leg from-new r = next-by-reads (jobOf x) g 0 f b u (At i leg) (r .boot) (r .update) (r .flags)
@@ -126,7 +120,7 @@ top : (check : Check) (x : Exchange) (g : Geometry) (f : Flash) (b : BootStatus)
     → Reads g f b u (At i leg) → (powerUp check g f 1) .flash ≡ perform g (Erase (target leg) i) f
 top check x g f b u i leg w r =
     does-first check x g f (Erase (target leg) i)
-    (reads-decide check g f b u (At i leg) r ∙ resumes x b u i leg (check g (f .update)) (check g (f .boot)) w) (erases-first x g f b u i leg w r)
+    (reads-decide check g f b u (At i leg) r ∙ resumed x b u w i leg (check g (f .update)) (check g (f .boot))) (erases-first x g f b u i leg w r)
 
 erases-swap : (x : Exchange) (g : Geometry) (f : Flash) (bs : Answer BootStatus) (us : Answer UpdateStatus) → bootStatusAt g (f .boot) ≡ bs
     → updateStatusAt g (f .update) ≡ us → flagsAt g (f .update) ≡ AllF → Armed x bs us

@@ -1,6 +1,5 @@
 -- Document 01, "Power-up": the one operation that is next, found by reading the status bytes and the flags.
 use Prim.Native.Nat.{ℕ, zero, suc}
-use mathlib.Core.List.{List}
 use Rattle.refusals.specs.Answer.{Answer, gives, refused}
 use Rattle.flash.specs.declared.Geometry.{Geometry}
 use Rattle.flash.specs.declared.BootStatus.{BootStatus}

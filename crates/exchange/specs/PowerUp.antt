@@ -1,5 +1,4 @@
 -- Document 01, "Power-up": the call with a budget, made only of repeating the single step.
-use mathlib.Core.List.{List}
 use Prim.Native.Nat.{ℕ}
 use Rattle.refusals.specs.Answer.{Answer, gives, refused}
 use Rattle.flash.specs.declared.Geometry.{Geometry}
