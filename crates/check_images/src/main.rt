@@ -4,7 +4,7 @@ use image::ImageOutcome;
 use libc::STDOUT_FILENO;
 use listing::Verdict;
 ghost use mathlib.Core.Path.{_≡_};
-ghost use Rattle.image.specs.Check.{answerOf};
+ghost use Rattle.image.specs.Check.{badHeader, answerOf};
 ghost use Rattle.listing.specs.Listing.{saidBy};
 
 const SECTORS: usize = 3;
@@ -13,6 +13,16 @@ const SIZE: usize = 256;
 
 const PARTITION: usize = SECTORS * SIZE;
 
+// A header that was accepted is no bad one.
+fn bad_header(v: Verdict) -> Verdict
+    ensures { λ r. ⌜ saidBy r ≡ badHeader (saidBy v) ⌝ }
+{
+    match v {
+        Verdict::Accepted => Verdict::Refused(0, 0),
+        Verdict::Refused(_, _) => v,
+    }
+}
+
 // The number and the place of each of the check's outcomes.
 fn verdict_of(o: ImageOutcome) -> Verdict
     ensures { λ r. ⌜ saidBy r ≡ answerOf o tt ⌝ }
@@ -20,7 +30,7 @@ fn verdict_of(o: ImageOutcome) -> Verdict
     match o {
         ImageOutcome::Good => Verdict::Accepted,
         ImageOutcome::OutsideRules => Verdict::Refused(1, 0),
-        ImageOutcome::BadHeader(h) => listing::verdict_of(h),
+        ImageOutcome::BadHeader(h) => bad_header(listing::verdict_of(h)),
         ImageOutcome::TooLarge => Verdict::Refused(3, 4),
         ImageOutcome::WrongDigest => Verdict::Refused(9, 256),
     }

@@ -1,6 +1,6 @@
 // The walk over the tags of a header, one tag at a time. The header is the whole lent slice, so its length is the slice's.
 ghost use mathlib.Core.Path.{_≡_};
-ghost use Prim.Native.Nat.{_+_, _*_, _<_};
+ghost use Prim.Native.Nat.{_+_, _*_, _<_, _≤_};
 ghost use lib.ListN.{length};
 ghost use Rattle.tags.specs.Walk.{itemAt, nextItem, itemOf, walkAt, placeAfter};
 
@@ -66,16 +66,26 @@ fn tag_at(h: &[u8], at: usize) -> Tag
     }
 }
 
+// Where the padding from a place on ends. A loop, so that long padding takes no stack.
+fn end_of_padding(h: &[u8], at: usize) -> usize
+    ensures { λ r. ⌜ (at ≤ r) × (nextItem (now (h .entry)) r ≡ nextItem (now (h .entry)) at) ⌝ }
+{
+    let mut p = at;
+    while p < h.len() {
+        if h[p] != PADDING {
+            return p;
+        }
+        p += 1;
+    }
+    p
+}
+
 // Goes over the padding from a place, and reads the tag after it.
 pub fn skip_padding(h: &[u8], at: usize) -> Tag
     ensures { λ r. ⌜ itemOf r ≡ nextItem (now (h .entry)) at ⌝ }
 {
-    if at < h.len() {
-        if h[at] == PADDING {
-            return skip_padding(h, at + 1);
-        }
-    }
-    read_tag(h, at)
+    let p = end_of_padding(h, at);
+    read_tag(h, p)
 }
 
 // Reads the tag at a place, or after the padding there.

@@ -5,6 +5,7 @@ use mathlib.Core.Path.{_≡_, _∙_}
 use native.Mathlib.Omega.{arith}
 use lib.ListN.{length}
 use Rattle.tags.proofs.Laws.{next-none, next-padding, next-item}
+use borrow.Author.Needs.{needs}
 use borrow.Fn.Kinds.{In}
 use borrow.Fn.PlainCycle.{Measures, is, falls, and}
 use Rattle.tags.proofs.read_tag.Reads as read-tag
@@ -13,6 +14,7 @@ use Rattle.tags.proofs.+read_tag+skip_padding.Lts-read_tag as read-tag-
 use Rattle.tags.proofs.skip_padding.Reads as skip-padding
 use Rattle.tags.proofs.skip_padding.Kinds as skip-padding-kinds
 use Rattle.tags.proofs.+read_tag+skip_padding.Lts-skip_padding as skip-padding-lts
+use Rattle.tags.proofs.end_of_padding.Reads as end-of-padding-reads
 use Rattle.tags.proofs.tag_at.Reads as tag-at-reads
 use Rattle.tags.proofs.+read_tag+skip_padding.{statement}
 use Rattle.tags.proofs.+read_tag+skip_padding.Tie.{close}
@@ -52,12 +54,9 @@ pub +read-tag+skip-padding-spec : {M : Type 1} → statement M
     (λ c κs. omega arith)
     (λ c. c .tag-at .ensures ∙ next-item _ _ (omega arith) (omega arith)))
     λ t. skip-padding-lts.spec
-    (skip-padding-below t, skip-padding.Post, read-tag-below t, read-tag.Post)
+    (end-of-padding-reads.Asked, end-of-padding-reads.Learnt, read-tag-below t, read-tag.Post)
     (skip-padding-at t)
     skip-padding.Post
-    (λ c. omega arith)
-    (λ c. omega arith)
-    (λ c κs. omega arith)
-    (λ c. c .skip-padding .ensures ∙ next-padding _ _ (omega arith) (omega arith))
-    (λ c κs. omega arith)
-    (λ c. c .read-tag .ensures)
+    (λ c κs. search needs)
+    (λ c κs. let p = c .end-of-padding .ensures .0 in omega arith)
+    (λ c. c .read-tag .ensures ∙ c .before .end-of-padding .ensures .1)
