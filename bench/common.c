@@ -1,0 +1,84 @@
+#define _POSIX_C_SOURCE 200809L
+
+#include "common.h"
+
+#include <stdio.h>
+#include <stdlib.h>
+#include <time.h>
+
+enum { ROUNDS = 5, SIDES_MAX = 4 };
+
+#define ROUND_SECONDS 0.2
+
+/* The processor time of this program, so that other programs on the machine count little. */
+static double processor_seconds(void)
+{
+    struct timespec t;
+    clock_gettime(CLOCK_PROCESS_CPUTIME_ID, &t);
+    return (double)t.tv_sec + (double)t.tv_nsec * 1e-9;
+}
+
+void best_seconds(action *const *sides, int count, action *prepare, double *best)
+{
+    for (int round = 0; round < ROUNDS; round++) {
+        double sum[SIDES_MAX] = {0};
+        double least;
+        int runs = 0;
+        do {
+            least = 1e9;
+            for (int k = 0; k < count; k++) {
+                if (prepare != NULL) {
+                    prepare();
+                }
+                double begin = processor_seconds();
+                sides[k]();
+                sum[k] += processor_seconds() - begin;
+                least = sum[k] < least ? sum[k] : least;
+            }
+            runs++;
+        } while (least < ROUND_SECONDS);
+        for (int k = 0; k < count; k++) {
+            double mean = sum[k] / runs;
+            best[k] = round == 0 || mean < best[k] ? mean : best[k];
+        }
+    }
+}
+
+void print_row(const char *what, const char *unit, int digits, double ours, double other)
+{
+    char a[32];
+    char b[32];
+    snprintf(a, sizeof a, "%.*f %s", digits, ours, unit);
+    snprintf(b, sizeof b, "%.*f %s", digits, other, unit);
+    printf("| %-40s | %12s | %12s | %5.2f |\n", what, a, b, ours / other);
+}
+
+void print_bytes(const char *what, long bytes)
+{
+    char a[32];
+    snprintf(a, sizeof a, "%ld B", bytes);
+    printf("| %-40s | %12s | %12s | %5s |\n", what, a, "", "");
+}
+
+void fail(const char *why)
+{
+    fprintf(stderr, "bench: %s\n", why);
+    exit(1);
+}
+
+void *room_for(size_t length)
+{
+    void *p = malloc(length);
+    if (p == NULL) {
+        fail("no memory");
+    }
+    return p;
+}
+
+void fill(uint8_t *p, size_t length, uint32_t seed)
+{
+    for (size_t i = 0; i < length; i++) {
+        seed = seed * 1664525u + 1013904223u;
+        p[i] = (uint8_t)(seed >> 24);
+    }
+}

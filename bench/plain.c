@@ -1,0 +1,240 @@
+#include "plain.h"
+
+#include <string.h>
+
+#include "tainhosa.h"
+
+/* ---- SHA-256 */
+
+static const uint32_t K[64] = {
+    0x428a2f98, 0x71374491, 0xb5c0fbcf, 0xe9b5dba5, 0x3956c25b, 0x59f111f1, 0x923f82a4, 0xab1c5ed5,
+    0xd807aa98, 0x12835b01, 0x243185be, 0x550c7dc3, 0x72be5d74, 0x80deb1fe, 0x9bdc06a7, 0xc19bf174,
+    0xe49b69c1, 0xefbe4786, 0x0fc19dc6, 0x240ca1cc, 0x2de92c6f, 0x4a7484aa, 0x5cb0a9dc, 0x76f988da,
+    0x983e5152, 0xa831c66d, 0xb00327c8, 0xbf597fc7, 0xc6e00bf3, 0xd5a79147, 0x06ca6351, 0x14292967,
+    0x27b70a85, 0x2e1b2138, 0x4d2c6dfc, 0x53380d13, 0x650a7354, 0x766a0abb, 0x81c2c92e, 0x92722c85,
+    0xa2bfe8a1, 0xa81a664b, 0xc24b8b70, 0xc76c51a3, 0xd192e819, 0xd6990624, 0xf40e3585, 0x106aa070,
+    0x19a4c116, 0x1e376c08, 0x2748774c, 0x34b0bcb5, 0x391c0cb3, 0x4ed8aa4a, 0x5b9cca4f, 0x682e6ff3,
+    0x748f82ee, 0x78a5636f, 0x84c87814, 0x8cc70208, 0x90befffa, 0xa4506ceb, 0xbef9a3f7, 0xc67178f2,
+};
+
+static const uint32_t H0[8] = {
+    0x6a09e667, 0xbb67ae85, 0x3c6ef372, 0xa54ff53a, 0x510e527f, 0x9b05688c, 0x1f83d9ab, 0x5be0cd19,
+};
+
+static uint32_t rotr(uint32_t x, int n)
+{
+    return (x >> n) | (x << (32 - n));
+}
+
+static void compress(uint32_t hash[8], const uint8_t *block)
+{
+    uint32_t w[64];
+    for (int t = 0; t < 16; t++) {
+        const uint8_t *p = block + 4 * t;
+        w[t] = (uint32_t)p[0] << 24 | (uint32_t)p[1] << 16 | (uint32_t)p[2] << 8 | p[3];
+    }
+    for (int t = 16; t < 64; t++) {
+        uint32_t x = w[t - 2];
+        uint32_t y = w[t - 15];
+        uint32_t s1 = rotr(x, 17) ^ rotr(x, 19) ^ (x >> 10);
+        uint32_t s0 = rotr(y, 7) ^ rotr(y, 18) ^ (y >> 3);
+        w[t] = s1 + w[t - 7] + s0 + w[t - 16];
+    }
+    uint32_t a = hash[0];
+    uint32_t b = hash[1];
+    uint32_t c = hash[2];
+    uint32_t d = hash[3];
+    uint32_t e = hash[4];
+    uint32_t f = hash[5];
+    uint32_t g = hash[6];
+    uint32_t h = hash[7];
+    for (int t = 0; t < 64; t++) {
+        uint32_t big1 = rotr(e, 6) ^ rotr(e, 11) ^ rotr(e, 25);
+        uint32_t ch = (e & f) ^ (~e & g);
+        uint32_t t1 = h + big1 + ch + K[t] + w[t];
+        uint32_t big0 = rotr(a, 2) ^ rotr(a, 13) ^ rotr(a, 22);
+        uint32_t maj = (a & b) ^ (a & c) ^ (b & c);
+        uint32_t t2 = big0 + maj;
+        h = g;
+        g = f;
+        f = e;
+        e = d + t1;
+        d = c;
+        c = b;
+        b = a;
+        a = t1 + t2;
+    }
+    hash[0] += a;
+    hash[1] += b;
+    hash[2] += c;
+    hash[3] += d;
+    hash[4] += e;
+    hash[5] += f;
+    hash[6] += g;
+    hash[7] += h;
+}
+
+void plain_sha256(const uint8_t *message, size_t len, uint8_t digest[32])
+{
+    uint32_t hash[8];
+    memcpy(hash, H0, sizeof hash);
+    size_t whole = len - len % 64;
+    for (size_t at = 0; at < whole; at += 64) {
+        compress(hash, message + at);
+    }
+    uint8_t last[128] = {0};
+    size_t rest = len - whole;
+    memcpy(last, message + whole, rest);
+    last[rest] = 0x80;
+    size_t end = rest < 56 ? 64 : 128;
+    uint64_t bits = (uint64_t)len * 8;
+    for (int i = 0; i < 8; i++) {
+        last[end - 8 + i] = (uint8_t)(bits >> (56 - 8 * i));
+    }
+    for (size_t at = 0; at < end; at += 64) {
+        compress(hash, last + at);
+    }
+    for (int i = 0; i < 32; i++) {
+        digest[i] = (uint8_t)(hash[i / 4] >> (24 - 8 * (i % 4)));
+    }
+}
+
+/* ---- The header */
+
+static uint32_t le16(const uint8_t *p)
+{
+    return p[0] | (uint32_t)p[1] << 8;
+}
+
+static uint32_t le32(const uint8_t *p)
+{
+    return le16(p) | le16(p + 2) << 16;
+}
+
+static uint64_t le64(const uint8_t *p)
+{
+    return le32(p) | (uint64_t)le32(p + 4) << 32;
+}
+
+enum { VERSION, TIMESTAMP, DIGEST, SIGNATURE, AUTH_TYPE, HINT, ROWS };
+
+static const uint16_t types[ROWS] = {
+    TAINHOSA_TYPE_VERSION,   TAINHOSA_TYPE_TIMESTAMP, TAINHOSA_TYPE_DIGEST,
+    TAINHOSA_TYPE_SIGNATURE, TAINHOSA_TYPE_AUTH_TYPE, TAINHOSA_TYPE_HINT,
+};
+
+static const uint8_t lengths[ROWS] = {4, 8, 32, 64, 2, 32};
+
+static int row_of(uint32_t type)
+{
+    switch (type) {
+    case TAINHOSA_TYPE_VERSION: return VERSION;
+    case TAINHOSA_TYPE_TIMESTAMP: return TIMESTAMP;
+    case TAINHOSA_TYPE_DIGEST: return DIGEST;
+    case TAINHOSA_TYPE_SIGNATURE: return SIGNATURE;
+    case TAINHOSA_TYPE_AUTH_TYPE: return AUTH_TYPE;
+    case TAINHOSA_TYPE_HINT: return HINT;
+    default: return ROWS;
+    }
+}
+
+static uint32_t refuse(uint64_t numbers[6], uint32_t answer, size_t place)
+{
+    numbers[TAINHOSA_HEADER_PLACE] = place;
+    return answer;
+}
+
+uint32_t plain_read_header(const uint8_t *input, size_t len, uint64_t numbers[6], uint8_t bytes[128])
+{
+    const uint8_t *value[ROWS] = {0};
+    size_t p = TAINHOSA_FIRST_TAG;
+    memset(numbers, 0, 6 * sizeof numbers[0]);
+    memset(bytes, 0, 128);
+    if (len < TAINHOSA_HEADER_LENGTH) {
+        return TAINHOSA_SHORT_HEADER;
+    }
+    if (memcmp(input, "CERT", 4) != 0) {
+        return TAINHOSA_WRONG_MAGIC;
+    }
+    if (le32(input + 4) == 0) {
+        return refuse(numbers, TAINHOSA_WRONG_SIZE, 4);
+    }
+    for (;;) {
+        if (p == TAINHOSA_HEADER_LENGTH) {
+            return refuse(numbers, TAINHOSA_NO_END, p);
+        }
+        if (input[p] == 0xFF) {
+            p++;
+            continue;
+        }
+        if (p + 2 > TAINHOSA_HEADER_LENGTH) {
+            return refuse(numbers, TAINHOSA_TAG_DOES_NOT_FIT, p);
+        }
+        uint32_t type = le16(input + p);
+        if (type == 0) {
+            break;
+        }
+        if (p + 4 > TAINHOSA_HEADER_LENGTH) {
+            return refuse(numbers, TAINHOSA_TAG_DOES_NOT_FIT, p);
+        }
+        uint32_t length = le16(input + p + 2);
+        if (p + 4 + length > TAINHOSA_HEADER_LENGTH) {
+            return refuse(numbers, TAINHOSA_TAG_DOES_NOT_FIT, p);
+        }
+        int row = row_of(type);
+        if (row < ROWS) {
+            if (length != lengths[row]) {
+                return refuse(numbers, TAINHOSA_TAG_WRONG_LENGTH, p);
+            }
+            if (value[row] != NULL) {
+                return refuse(numbers, TAINHOSA_TAG_REPEATED, p);
+            }
+            value[row] = input + p + 4;
+        }
+        p += 4 + length;
+    }
+    for (int row = 0; row < HINT; row++) {
+        if (value[row] == NULL) {
+            return refuse(numbers, TAINHOSA_TAG_MISSING, types[row]);
+        }
+    }
+    numbers[TAINHOSA_HEADER_SIZE] = le32(input + 4);
+    numbers[TAINHOSA_HEADER_VERSION] = le32(value[VERSION]);
+    numbers[TAINHOSA_HEADER_TIMESTAMP] = le64(value[TIMESTAMP]);
+    numbers[TAINHOSA_HEADER_AUTH_TYPE] = le16(value[AUTH_TYPE]);
+    memcpy(bytes + TAINHOSA_DIGEST_AT, value[DIGEST], TAINHOSA_DIGEST_BYTES);
+    memcpy(bytes + TAINHOSA_SIGNATURE_AT, value[SIGNATURE], TAINHOSA_SIGNATURE_BYTES);
+    if (value[HINT] != NULL) {
+        numbers[TAINHOSA_HEADER_HAS_HINT] = 1;
+        memcpy(bytes + TAINHOSA_HINT_AT, value[HINT], TAINHOSA_HINT_BYTES);
+    }
+    return TAINHOSA_OK;
+}
+
+/* ---- Image and flash */
+
+int plain_check_image(const uint8_t *partition, size_t room, uint32_t *version)
+{
+    uint64_t numbers[6];
+    uint8_t bytes[128];
+    uint8_t digest[32];
+    if (plain_read_header(partition, room, numbers, bytes) != TAINHOSA_OK) {
+        return 0;
+    }
+    if (numbers[TAINHOSA_HEADER_SIZE] > room - TAINHOSA_HEADER_LENGTH) {
+        return 0;
+    }
+    plain_sha256(partition + TAINHOSA_HEADER_LENGTH, numbers[TAINHOSA_HEADER_SIZE], digest);
+    *version = (uint32_t)numbers[TAINHOSA_HEADER_VERSION];
+    return memcmp(digest, bytes + TAINHOSA_DIGEST_AT, 32) == 0;
+}
+
+void plain_erase(uint8_t *sector, size_t size)
+{
+    memset(sector, 0xFF, size);
+}
+
+void plain_copy(uint8_t *target, const uint8_t *source, size_t size)
+{
+    memcpy(target, source, size);
+}

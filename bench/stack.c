@@ -1,0 +1,212 @@
+/*
+ * The stack that each call takes: it runs on a stack of its own that was painted before, and the painted bytes that are left are
+ * counted. What a function that does nothing takes in the same way is subtracted. Of a call with several inputs the most counts:
+ * once of the inputs whose headers are as tainhosa_write_header makes them, and once of those with a header of padding, which makes
+ * the longest walk.
+ */
+#define _XOPEN_SOURCE 700
+
+#include <stdio.h>
+#include <string.h>
+#include <ucontext.h>
+
+#include "common.h"
+#include "tainhosa.h"
+
+enum { STACK = 256 * 1024, PAINT = 0xA5, SECTORS = 64, SIZE = 4096, LENGTH = SECTORS * SIZE, STATUS = LENGTH - 1 };
+
+static uint8_t stack[STACK];
+static ucontext_t here, there;
+static uint8_t boot[LENGTH], update[LENGTH], swap[SIZE], header[TAINHOSA_HEADER_LENGTH];
+static uint64_t numbers[6];
+static uint8_t bytes[128], digest[32];
+static uint32_t answer;
+static size_t at;
+
+static long used(action *call)
+{
+    size_t left = 0;
+    memset(stack, PAINT, sizeof stack);
+    getcontext(&there);
+    there.uc_stack.ss_sp = stack;
+    there.uc_stack.ss_size = sizeof stack;
+    there.uc_link = &here;
+    makecontext(&there, call, 0);
+    swapcontext(&here, &there);
+    while (left < sizeof stack && stack[left] == PAINT) {
+        left++;
+    }
+    return (long)(sizeof stack - left);
+}
+
+/* ---- The calls */
+
+static void nothing(void)
+{
+}
+
+static void sha256(void)
+{
+    answer = tainhosa_sha256(boot, LENGTH - 5, digest, 32);
+}
+
+static void read_header(void)
+{
+    answer = tainhosa_read_header(header, sizeof header, numbers, 6, bytes, 128);
+}
+
+static void write_header(void)
+{
+    answer = tainhosa_write_header(header, sizeof header, LENGTH - SIZE - 256, 7, 1700000000, 512, true, bytes, 128);
+}
+
+static void next_tag(void)
+{
+    answer = tainhosa_next_tag(header, sizeof header, at, numbers, 6);
+}
+
+static void check_image(void)
+{
+    answer = tainhosa_check_image(SECTORS, SIZE, boot, LENGTH, numbers, 6, bytes, 128);
+}
+
+static void arm(void)
+{
+    answer = tainhosa_arm(SECTORS, SIZE, boot, LENGTH, update, LENGTH, swap, SIZE, numbers, 1);
+}
+
+static void power_up(void)
+{
+    answer = tainhosa_power_up(SECTORS, SIZE, boot, LENGTH, update, LENGTH, swap, SIZE, UINT64_MAX, numbers, 6);
+}
+
+static void confirm(void)
+{
+    answer = tainhosa_confirm(SECTORS, SIZE, boot, LENGTH, update, LENGTH, swap, SIZE, numbers, 1);
+}
+
+/* ---- What each took */
+
+enum { READ_HEADER, CHECK_IMAGE, POWER_UP, ARM, CONFIRM, SHA256, WRITE_HEADER, NEXT_TAG, CALLS };
+
+enum { WRITTEN, PADDED, KINDS };
+
+static const struct {
+    const char *name;
+    action *call;
+} calls[CALLS] = {
+    {"tainhosa_read_header", read_header},   {"tainhosa_check_image", check_image},
+    {"tainhosa_power_up", power_up},         {"tainhosa_arm", arm},
+    {"tainhosa_confirm", confirm},           {"tainhosa_sha256", sha256},
+    {"tainhosa_write_header", write_header}, {"tainhosa_next_tag", next_tag},
+};
+
+static long most[KINDS][CALLS];
+static int kind = WRITTEN;
+
+static void take(int which, uint32_t expected)
+{
+    long n = used(calls[which].call) - used(nothing);
+    if (answer != expected) {
+        fail("a call on the painted stack gave another answer");
+    }
+    most[kind][which] = n > most[kind][which] ? n : most[kind][which];
+}
+
+static void print_all(void)
+{
+    char what[80];
+    for (int i = 0; i < CALLS; i++) {
+        snprintf(what, sizeof what, "stack, %s", calls[i].name);
+        print_bytes(what, most[WRITTEN][i]);
+        if (most[PADDED][i] > 0) {
+            snprintf(what, sizeof what, "stack, the same on a header of padding");
+            print_bytes(what, most[PADDED][i]);
+        }
+    }
+}
+
+static void expect_outcome(uint64_t outcome)
+{
+    if (numbers[TAINHOSA_POWER_UP_OUTCOME] != outcome) {
+        fail("a power-up on the painted stack had another outcome");
+    }
+}
+
+static void make_image(uint8_t *partition, uint32_t version)
+{
+    const size_t firmware = LENGTH - SIZE - TAINHOSA_HEADER_LENGTH;
+    uint8_t values[128];
+    fill(values, sizeof values, version);
+    memset(partition, 0xFF, LENGTH);
+    fill(partition + TAINHOSA_HEADER_LENGTH, firmware, version);
+    if (tainhosa_sha256(partition + TAINHOSA_HEADER_LENGTH, firmware, values, 32) != TAINHOSA_OK ||
+        tainhosa_write_header(partition, LENGTH, (uint32_t)firmware, version, 1700000000, 512, true, values, 128) != TAINHOSA_OK) {
+        fail("an image was not made");
+    }
+}
+
+static void pad_header(uint8_t *p)
+{
+    memset(p + TAINHOSA_FIRST_TAG, 0xFF, TAINHOSA_HEADER_LENGTH - TAINHOSA_FIRST_TAG);
+}
+
+int main(void)
+{
+    make_image(boot, 1);
+    make_image(update, 2);
+    boot[STATUS] = TAINHOSA_STATUS_SUCCESS;
+    memset(swap, 0xFF, SIZE);
+
+    take(SHA256, TAINHOSA_OK);
+    take(WRITE_HEADER, TAINHOSA_OK);
+    take(READ_HEADER, TAINHOSA_OK);
+    at = TAINHOSA_FIRST_TAG;
+    take(NEXT_TAG, TAINHOSA_OK);
+
+    /* Plain, an update, a fallback, an update that is kept, one that is turned down, and a digest that is wrong. */
+    take(CHECK_IMAGE, TAINHOSA_OK);
+    take(POWER_UP, TAINHOSA_OK);
+    expect_outcome(TAINHOSA_RUN);
+    take(ARM, TAINHOSA_OK);
+    take(POWER_UP, TAINHOSA_OK);
+    expect_outcome(TAINHOSA_RUN_ON_TEST);
+    take(POWER_UP, TAINHOSA_OK);
+    expect_outcome(TAINHOSA_RUN_FALLEN_BACK);
+    make_image(update, 2);
+    take(ARM, TAINHOSA_OK);
+    take(POWER_UP, TAINHOSA_OK);
+    expect_outcome(TAINHOSA_RUN_ON_TEST);
+    take(CONFIRM, TAINHOSA_OK);
+    make_image(update, 1);
+    take(ARM, TAINHOSA_OK);
+    take(POWER_UP, TAINHOSA_OK);
+    expect_outcome(TAINHOSA_RUN);
+    boot[1000] ^= 1;
+    take(CHECK_IMAGE, TAINHOSA_WRONG_DIGEST);
+    take(POWER_UP, TAINHOSA_BAD_BOOT);
+    take(CONFIRM, TAINHOSA_WRONG_TIME);
+    boot[1000] ^= 1;
+
+    /* Padding: in UPDATE when armed, in BOOT, and in UPDATE when a fallback is due. */
+    kind = PADDED;
+    pad_header(header);
+    take(READ_HEADER, TAINHOSA_NO_END);
+    take(NEXT_TAG, TAINHOSA_NO_END);
+    make_image(update, 3);
+    pad_header(update);
+    if (tainhosa_arm(SECTORS, SIZE, boot, LENGTH, update, LENGTH, swap, SIZE, numbers, 1) != TAINHOSA_OK) {
+        fail("tainhosa_arm refused");
+    }
+    take(POWER_UP, TAINHOSA_OK);
+    expect_outcome(TAINHOSA_RUN);
+    boot[STATUS] = TAINHOSA_STATUS_TESTING;
+    take(POWER_UP, TAINHOSA_NO_FALLBACK);
+    boot[STATUS] = TAINHOSA_STATUS_SUCCESS;
+    pad_header(boot);
+    take(CHECK_IMAGE, TAINHOSA_NO_END);
+    take(POWER_UP, TAINHOSA_BAD_BOOT);
+
+    print_all();
+    return 0;
+}

@@ -1,0 +1,165 @@
+/*
+ * One update, armed before: tainhosa_power_up beside plain C that does the same checks, erases, copies and writes, in the same
+ * buffers. The firmware fills its sectors. Fails if the two leave another flash.
+ */
+#include <stdio.h>
+#include <stdlib.h>
+#include <string.h>
+
+#include "common.h"
+#include "plain.h"
+#include "tainhosa.h"
+
+static size_t sectors, size, length;
+static uint8_t *boot, *update, *swap;
+static uint8_t *first_boot, *first_update, *first_swap;
+static uint64_t answer[6];
+
+/* ---- Plain C */
+
+static void write_flag(size_t i, uint8_t flag)
+{
+    uint8_t *p = update + length - 2 - i / 2;
+    *p = i % 2 == 0 ? (uint8_t)((*p & 0xF0) | flag) : (uint8_t)((*p & 0x0F) | flag << 4);
+}
+
+static int plain_update(void)
+{
+    const size_t trailer = (sectors - 1) * size;
+    uint32_t newer;
+    uint32_t running;
+    if (update[length - 1] != TAINHOSA_STATUS_UPDATING || boot[length - 1] == TAINHOSA_STATUS_TESTING) {
+        return 0;
+    }
+    if (!plain_check_image(update, trailer, &newer) || !plain_check_image(boot, trailer, &running) || newer <= running) {
+        return 0;
+    }
+    for (size_t i = 0; i + 1 < sectors; i++) {
+        uint8_t *b = boot + i * size;
+        uint8_t *u = update + i * size;
+        plain_erase(swap, size);
+        plain_copy(swap, u, size);
+        write_flag(i, 0x7);
+        plain_erase(u, size);
+        plain_copy(u, b, size);
+        write_flag(i, 0x3);
+        plain_erase(b, size);
+        plain_copy(b, swap, size);
+        write_flag(i, 0x0);
+    }
+    if (boot[length - 1] == TAINHOSA_STATUS_SUCCESS) {
+        plain_erase(boot + trailer, size);
+    }
+    boot[length - 1] = TAINHOSA_STATUS_TESTING;
+    plain_erase(update + trailer, size);
+    return plain_check_image(boot, trailer, &running);
+}
+
+static void run_plain(void)
+{
+    if (!plain_update()) {
+        fail("the plain update failed");
+    }
+}
+
+/* ---- Ours */
+
+static void run_ours(void)
+{
+    if (tainhosa_power_up(sectors, size, boot, length, update, length, swap, size, UINT64_MAX, answer, 6) != TAINHOSA_OK ||
+        answer[TAINHOSA_POWER_UP_OUTCOME] != TAINHOSA_RUN_ON_TEST) {
+        fail("the update failed");
+    }
+}
+
+/* ---- Both */
+
+static void make_image(uint8_t *partition, uint32_t version)
+{
+    const size_t firmware = length - size - TAINHOSA_HEADER_LENGTH;
+    uint8_t bytes[128];
+    fill(bytes, sizeof bytes, version);
+    memset(partition, 0xFF, length);
+    fill(partition + TAINHOSA_HEADER_LENGTH, firmware, version + 10);
+    plain_sha256(partition + TAINHOSA_HEADER_LENGTH, firmware, bytes + TAINHOSA_DIGEST_AT);
+    if (tainhosa_write_header(partition, length, (uint32_t)firmware, version, 1700000000, 512, true, bytes, 128) != TAINHOSA_OK) {
+        fail("tainhosa_write_header refused");
+    }
+}
+
+static void restore(void)
+{
+    memcpy(boot, first_boot, length);
+    memcpy(update, first_update, length);
+    memcpy(swap, first_swap, size);
+}
+
+static void compare(void)
+{
+    uint8_t *done = room_for(2 * length + size);
+    restore();
+    run_ours();
+    memcpy(done, boot, length);
+    memcpy(done + length, update, length);
+    memcpy(done + 2 * length, swap, size);
+    restore();
+    run_plain();
+    if (memcmp(done, boot, length) != 0 || memcmp(done + length, update, length) != 0 ||
+        memcmp(done + 2 * length, swap, size) != 0) {
+        fail("two updates leave another flash");
+    }
+    if (answer[TAINHOSA_POWER_UP_COUNT] != 9 * (sectors - 1) + 3) {
+        fail("the update took another number of operations");
+    }
+    free(done);
+}
+
+static void measure(size_t n, size_t s, bool each)
+{
+    action *const sides[] = {run_ours, run_plain};
+    double best[2];
+    char what[80];
+    uint64_t count;
+    sectors = n;
+    size = s;
+    length = n * s;
+    boot = room_for(length);
+    update = room_for(length);
+    swap = room_for(size);
+    make_image(boot, 1);
+    make_image(update, 2);
+    memset(swap, 0xFF, size);
+    boot[length - 1] = TAINHOSA_STATUS_SUCCESS;
+    if (tainhosa_arm(n, s, boot, length, update, length, swap, size, &count, 1) != TAINHOSA_OK) {
+        fail("tainhosa_arm refused");
+    }
+    first_boot = room_for(length);
+    first_update = room_for(length);
+    first_swap = room_for(size);
+    memcpy(first_boot, boot, length);
+    memcpy(first_update, update, length);
+    memcpy(first_swap, swap, size);
+    compare();
+    best_seconds(sides, 2, restore, best);
+    snprintf(what, sizeof what, "update, %zu sectors of %zu KiB; plain C", n, s / 1024);
+    print_row(what, "ms", 3, best[0] * 1e3, best[1] * 1e3);
+    if (each) {
+        snprintf(what, sizeof what, "update, for each of %zu firmware sectors", n - 1);
+        print_row(what, "us", 1, best[0] * 1e6 / (double)(n - 1), best[1] * 1e6 / (double)(n - 1));
+    }
+    free(boot);
+    free(update);
+    free(swap);
+    free(first_boot);
+    free(first_update);
+    free(first_swap);
+}
+
+int main(void)
+{
+    measure(64, 131072, false);
+    for (size_t n = 2; n <= 64; n *= 2) {
+        measure(n, 4096, true);
+    }
+    return 0;
+}
