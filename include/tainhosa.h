@@ -126,7 +126,7 @@ uint32_t tainhosa_next_tag(const uint8_t *input, size_t input_length, size_t at,
 /*
  * Checks the image of a partition: its header, that the sectors but the last hold its firmware, and the firmware's digest.
  * OK: numbers (6) and bytes (128) hold the header's values, as tainhosa_read_header leaves them.
- * Refused with 1 (also for the geometry), what tainhosa_read_header refuses, 3 (firmware too large) or 9:
+ * Refused with 1 (the geometry or the partition's length), what tainhosa_read_header refuses, 3 (firmware too large) or 9:
  * numbers[TAINHOSA_HEADER_PLACE] is the place, all else in both is 0.
  */
 uint32_t tainhosa_check_image(size_t sectors, size_t size,
@@ -155,7 +155,8 @@ uint32_t tainhosa_check_image(size_t sectors, size_t size,
  * at most `budget` erases, copies and writes. Where power is lost in between, call it again: it goes on from what the flash shows.
  * OK: answer (6) holds the outcome, which is not TAINHOSA_REFUSED; boot, update and swap are as the operations leave them.
  * Refused with 1, 10, 11, 12 or 13: answer holds the outcome TAINHOSA_REFUSED, and of 12 and 13 the bad image's own number and
- * place; the flash stays as it was and the count is 0. Only 12 can come after operations: they stay done and are counted.
+ * place; the flash stays as it was and the count is 0. Only 12 can come after operations: they stay done and are counted,
+ * and beside 12 a reason may stand, as beside any outcome of an update that was turned down.
  * With an answer buffer of another length, 1, the flash is not touched.
  */
 uint32_t tainhosa_power_up(size_t sectors, size_t size,
@@ -182,7 +183,7 @@ uint32_t tainhosa_arm(size_t sectors, size_t size,
 /*
  * Keeps the image that runs on test: BOOT has to be TESTING, UPDATE NEW, and no fallback begun.
  * OK: BOOT's status is SUCCESS; count[0] is 1.
- * Refused with 1, 10, 14 or 11: the flash stays as it was.
+ * Refused with 1, 10, 14 (another pair of statuses), 11 or 14 (a fallback has begun), in this order: the flash stays as it was.
  */
 uint32_t tainhosa_confirm(size_t sectors, size_t size,
                           uint8_t *boot, size_t boot_length,

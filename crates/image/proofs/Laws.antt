@@ -118,9 +118,14 @@ inside n s l {b} {r} g e p c =
     ap imageIn p ∙ ap (λ (a : Answer Geometry). then a (λ g. imageIn (firmwareOf g l))) e in
     rw same at c
 
--- two partitions that agree in their firmware sectors get the same answer
-pub firmware-decides : (g : Geometry) (l l′ : List ℕ) → firmwareOf g l ≡ firmwareOf g l′ → imageIn (firmwareOf g l) ≡ imageIn (firmwareOf g l′)
-firmware-decides g l l′ e = ap imageIn e
+-- two partitions that fit the geometry and agree in their firmware sectors get the same answer
+pub firmware-decides : (n s : ℕ) (l l′ : List ℕ) (g : Geometry) → partitionOf n s l ≡ gives g → partitionOf n s l′ ≡ gives g
+    → firmwareOf g l ≡ firmwareOf g l′ → checkImage n s l ≡ checkImage n s l′
+unfolding checkImage
+firmware-decides n s l l′ g e e′ same =
+    ap (λ (a : Answer Geometry). then a (λ g. imageIn (firmwareOf g l))) e
+    ∙ ap imageIn same
+    ∙ sym (ap (λ (a : Answer Geometry). then a (λ g. imageIn (firmwareOf g l′))) e′)
 
 -- the part that is lent is what the digest covers
 pub firmware-part : (b : List ℕ) (n : ℕ) → take (256 + n - 256) (drop 256 b) ≡ take n (drop 256 b)
