@@ -1,30 +1,22 @@
 -- Demand 3 and the marked cases, of the delivered check. Assumes nothing.
-use mathlib.Core.Path.{_≡_, refl, ap}
-use mathlib.Core.List.{List, [], _∷_}
-use lib.ListN.{length}
-use Rattle.refusals.specs.Answer.{Answer, gives, then}
-use Rattle.header.specs.declared.Header.{Header}
+use mathlib.Core.List.{List, [], _∷_, map}
 use Rattle.flash.specs.declared.Geometry.{Geometry}
-use Rattle.flash.specs.Sectors.{firmwareOf}
-use Rattle.image.specs.Check.{imageIn}
 use Rattle.exchange.specs.Demand.{ReadsFirmware}
-use Rattle.exchange.specs.Cases.{ExchangeCase, exchangeCases, three, Every}
-use Rattle.exchange.specs.Cases as exchange
+use Rattle.exchange.specs.Cases.{exchangeCases, three, Every}
 use Rattle.exchange.proofs.Whole.{demand-3}
 use Rattle.exchange.proofs.Cases.{marked-exchange}
 use Rattle.exchange.proofs.Every.{every-map, every-append}
 use Rattle.header_writer.specs.Cases.{HeaderCase, headerCases, AllHold}
 use Rattle.header_writer.specs.Cases as header
 use Rattle.header_writer.proofs.Marked.{header-cases}
-use Rattle.loader.specs.Loader.{checkOf}
+use Rattle.decision.specs.Numbers.{checkOf}
+use Rattle.decision.proofs.Readings.{check-reads-firmware}
 use Rattle.delivered.specs.Demand.{Demand3}
-use Rattle.delivered.specs.MarkedCases.{MarkedCase, ofExchange, ofHeader, Holds, markedCases, MarkedCases}
-use mathlib.Core.List.{map}
+use Rattle.delivered.specs.MarkedCases.{ofExchange, ofHeader, Holds, MarkedCases}
 
 -- the delivered check reads the firmware sectors and nothing else
 pub reads-firmware : (g : Geometry) → ReadsFirmware checkOf g
-unfolding checkOf
-reads-firmware g l l′ e e′ same = ap (λ (b : List _). then (imageIn b) (λ (h : Header). gives (h .version))) same
+reads-firmware g l l′ e e′ same = check-reads-firmware g l l′ same
 
 pub demand-3-delivered : Demand3
 demand-3-delivered x g f starts es allowed = demand-3 checkOf x g f (reads-firmware g) starts es allowed

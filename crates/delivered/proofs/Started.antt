@@ -1,11 +1,10 @@
 -- The two starts of specs/Witness.antt, computed. Assumes nothing.
-use mathlib.Core.Path.{_≡_, refl}
-use Rattle.flash.specs.declared.Flags.the-variants.{AllF}
+use mathlib.Core.Path.{refl}
 use Rattle.flash.specs.Sizes.{firmware, withinLimits}
-use Rattle.flash.specs.StatusBytes.{statusByte, bootStatusOf, updateStatusOf}
-use Rattle.flash.specs.SectorFlags.{flagOf, flagByte, half, flagAt, flagsFrom, flags, allF, pastZeros, flagsShown, flagsAt}
 use Rattle.flash.specs.Buffers.{partitionFits, fits}
-use Rattle.sha256.specs.Fips.{first, bigEndian, Ch, Maj, Σ₀, Σ₁, σ₀, σ₁, K, zeros, padding, pad, block, word, words, H0, nextWord, schedule, round, rounds, nextHash, compress, hash, bytes, sha256}
+use Rattle.trailer.specs.StatusBytes.{statusByte, bootStatusOf, updateStatusOf}
+use Rattle.trailer.specs.SectorFlags.{flagOf, flagByte, half, flagAt, flagsFrom, flags, allF, pastZeros, flagsShown, flagsAt}
+use Rattle.fips180.specs.Sha256.{first, bigEndian, Ch, Maj, Σ₀, Σ₁, σ₀, σ₁, K, zeros, padding, pad, block, word, words, H0, nextWord, schedule, round, rounds, nextHash, compress, hash, bytes, sha256}
 use Rattle.tags.specs.Walk.{itemAt, itemFrom, tagsFrom}
 use Rattle.tags.specs.Bytes.{fieldBytes}
 use Rattle.header.specs.Reading.{rowOf, judge, placesIn, readHeader}
@@ -15,7 +14,7 @@ use Rattle.exchange.specs.Decision.{decide}
 use Rattle.exchange.specs.Demand.{update, fallback, Starts}
 use Rattle.exchange.specs.Cases.{three}
 use Rattle.exchange.proofs.Reached.{finish-reached}
-use Rattle.loader.specs.Loader.{checkOf}
+use Rattle.decision.specs.Numbers.{checkOf}
 use Rattle.delivered.specs.Witness.{partitionOf, armed, onTest, Witness, Witnesses}
 use Rattle.delivered.proofs.Delivered.{reads-firmware}
 

@@ -4,7 +4,7 @@ use mathlib.Core.List.{List}
 use Rattle.flash.specs.declared.Geometry.{Geometry}
 use Rattle.flash.specs.Buffers.{Flash}
 use Rattle.exchange.specs.Demand.{Exchange, Starts, Event, Allowed, Safe}
-use Rattle.loader.specs.Loader.{checkOf}
+use Rattle.decision.specs.Numbers.{checkOf}
 
 abbrev pub Demand3 : Type 0
 Demand3 =

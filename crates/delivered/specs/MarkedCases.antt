@@ -4,7 +4,7 @@ use Rattle.exchange.specs.Cases as exchange
 use Rattle.exchange.specs.Cases.{ExchangeCase, exchangeCases, Every}
 use Rattle.header_writer.specs.Cases as header
 use Rattle.header_writer.specs.Cases.{HeaderCase, headerCases}
-use Rattle.loader.specs.Loader.{checkOf}
+use Rattle.decision.specs.Numbers.{checkOf}
 
 -- Lines 1 to 6 speak of exchanges, lines 7 to 9 of headers.
 pub data MarkedCase : Type 0 where

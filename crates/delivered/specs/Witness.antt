@@ -5,7 +5,7 @@ use mathlib.Core.Bool.{false}
 use mathlib.Core.List.{List, [], _∷_, _++_}
 use Prim.Native.Nat.{ℕ, _+_, _≤_}
 use lib.ListN.{length, replicate}
-use Rattle.sha256.specs.Fips.{sha256}
+use Rattle.fips180.specs.Sha256.{sha256}
 use Rattle.header.specs.declared.Header.{Header}
 use Rattle.header_writer.specs.Writing.{headerBytes}
 use Rattle.flash.specs.Buffers.{Flash, flash}
@@ -13,7 +13,7 @@ use Rattle.exchange.specs.LostPower.{Torn}
 use Rattle.exchange.specs.Demand.{Exchange, update, fallback, Starts, most}
 use Rattle.exchange.specs.Cases.{three}
 use Rattle.exchange.specs.Reached.{Reached}
-use Rattle.loader.specs.Loader.{checkOf}
+use Rattle.decision.specs.Numbers.{checkOf}
 
 -- An image of a version, over a firmware of one byte, in two sectors of 256; and a trailer sector with a status byte.
 abbrev pub headerOf : ℕ → Header

@@ -9,18 +9,18 @@ use lib.ListN.{getD}
 use lib.Dec.{leb, ltb, eqb}
 use borrow.Author.Tests.{eqb-true, lt-leb, le-leb, lt-ltb, le-ltb}
 use Rattle.refusals.specs.Answer.{Answer, gives, refused}
-use Rattle.flash.specs.declared.BootStatus.{BootStatus}
-use Rattle.flash.specs.declared.BootStatus.the-variants.{New as BootNew, Testing, Success}
-use Rattle.flash.specs.declared.UpdateStatus.{UpdateStatus}
-use Rattle.flash.specs.declared.UpdateStatus.the-variants.{New as UpdateNew, Updating}
-use Rattle.flash.specs.declared.Flag.{Flag}
-use Rattle.flash.specs.declared.FlagRead.the-variants.{Known}
-use Rattle.flash.specs.declared.Flags.{Flags}
-use Rattle.flash.specs.declared.Flags.the-variants.{Malformed, AllF, At, All0}
 use Rattle.flash.specs.Sizes.{firmware, Limits}
-use Rattle.flash.specs.StatusBytes.{bootStatusAt, updateStatusAt}
-use Rattle.flash.specs.SectorFlags.{flagValue, flagOf, flagByte, half, flagAt, flagsFrom, flags, allF, pastZeros, flagsShown, flagsAt}
 use Rattle.flash.specs.Buffers.{Flash, fits}
+use Rattle.trailer.specs.declared.BootStatus.{BootStatus}
+use Rattle.trailer.specs.declared.BootStatus.the-variants.{New as BootNew, Testing, Success}
+use Rattle.trailer.specs.declared.UpdateStatus.{UpdateStatus}
+use Rattle.trailer.specs.declared.UpdateStatus.the-variants.{New as UpdateNew, Updating}
+use Rattle.trailer.specs.declared.Flag.{Flag}
+use Rattle.trailer.specs.declared.FlagRead.the-variants.{Known}
+use Rattle.trailer.specs.declared.Flags.{Flags}
+use Rattle.trailer.specs.declared.Flags.the-variants.{Malformed, AllF, At, All0}
+use Rattle.trailer.specs.StatusBytes.{bootStatusAt, updateStatusAt}
+use Rattle.trailer.specs.SectorFlags.{flagValue, flagOf, flagByte, half, flagAt, flagsFrom, flags, allF, pastZeros, flagsShown, flagsAt}
 use Rattle.exchange.specs.declared.Next.{Next}
 use Rattle.exchange.specs.declared.Next.the-variants.{Do, Nothing}
 use Rattle.exchange.specs.declared.Job.the-variants.{Update}
@@ -30,7 +30,7 @@ use Rattle.exchange.specs.PowerUp.{Outcome, refusal, cut, PowerUp, doneO
 use Rattle.exchange.specs.Demand.{Exchange, update, fallback, jobOf, ReadsFirmware}
 use Rattle.exchange.specs.Cases.{three, flagByteOf, after, counts, lastOutcome, Leaves, ExchangeCase, powerUps, malformed, FlagByteIs, LeavesAs, Holds, exchangeCases, Every, MarkedExchange}
 use Rattle.flash.proofs.Checked.{shaped-of}
-use Rattle.flash.proofs.Moves.{moved, legMoves, leg-below}
+use Rattle.trailer.proofs.Moves.{moved, legMoves, leg-below}
 use Rattle.exchange.proofs.Accepted.{Images}
 use Rattle.exchange.specs.RuledOut.{Underway, from-new, from-success, from-testing}
 use Rattle.exchange.proofs.Stage.{Closing, erase-boot, write-testing, erase-update, write-success, closingLeft, closing, Closed, on-test, fallen-back, Stage, in-leg, at-last, at-end, Stepped, stepped, step}

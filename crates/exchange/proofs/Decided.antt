@@ -6,20 +6,20 @@ use borrow.Author.Tests.{lt-ltb}
 use Rattle.refusals.specs.Answer.{Answer, gives}
 use Rattle.flash.specs.declared.Geometry.{Geometry}
 use Rattle.flash.specs.declared.SectorNumber.{SectorNumber}
-use Rattle.flash.specs.declared.BootStatus.{BootStatus}
-use Rattle.flash.specs.declared.UpdateStatus.{UpdateStatus}
-use Rattle.flash.specs.declared.Leg.{Leg}
-use Rattle.flash.specs.declared.Leg.the-variants.{UpdateToSwap, BootToUpdate, SwapToBoot}
-use Rattle.flash.specs.declared.Flags.{Flags}
-use Rattle.flash.specs.declared.Flags.the-variants.{AllF, At, All0}
 use Rattle.flash.specs.Sizes.{Limits}
-use Rattle.flash.specs.StatusBytes.{bootStatusAt, updateStatusAt}
-use Rattle.flash.specs.SectorFlags.{flagsAt}
 use Rattle.flash.specs.Buffers.{Flash, Shaped}
+use Rattle.trailer.specs.declared.BootStatus.{BootStatus}
+use Rattle.trailer.specs.declared.UpdateStatus.{UpdateStatus}
+use Rattle.trailer.specs.declared.Leg.{Leg}
+use Rattle.trailer.specs.declared.Leg.the-variants.{UpdateToSwap, BootToUpdate, SwapToBoot}
+use Rattle.trailer.specs.declared.Flags.{Flags}
+use Rattle.trailer.specs.declared.Flags.the-variants.{AllF, At, All0}
+use Rattle.trailer.specs.StatusBytes.{bootStatusAt, updateStatusAt}
+use Rattle.trailer.specs.SectorFlags.{flagsAt}
 use Rattle.exchange.specs.Decision.{Check, noReason, work, decideBy, decide}
 use Rattle.exchange.specs.Demand.{Exchange, jobOf}
 use Rattle.flash.proofs.Checked.{shaped-fits}
-use Rattle.flash.proofs.Moves.{legMoves, atLeg, shown-leg}
+use Rattle.trailer.proofs.Moves.{legMoves, atLeg, shown-leg}
 use Rattle.exchange.proofs.Accepted.{Images}
 use Rattle.exchange.proofs.Sound.{Sound}
 use Rattle.exchange.specs.RuledOut.{Underway, from-new, from-success, from-testing}

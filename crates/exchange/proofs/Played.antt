@@ -8,12 +8,12 @@ use native.Mathlib.Omega.{arith}
 use lib.ListN.{length}
 use Rattle.refusals.specs.Answer.{Answer, gives}
 use Rattle.flash.specs.declared.Geometry.{Geometry}
-use Rattle.flash.specs.declared.BootStatus.{BootStatus}
-use Rattle.flash.specs.declared.UpdateStatus.{UpdateStatus}
-use Rattle.flash.specs.declared.Flag.the-variants.{Exchanged}
 use Rattle.flash.specs.Sizes.{firmware, Limits}
-use Rattle.flash.specs.StatusBytes.{bootStatusAt, updateStatusAt}
 use Rattle.flash.specs.Buffers.{Flash, fits}
+use Rattle.trailer.specs.declared.BootStatus.{BootStatus}
+use Rattle.trailer.specs.declared.UpdateStatus.{UpdateStatus}
+use Rattle.trailer.specs.declared.Flag.the-variants.{Exchanged}
+use Rattle.trailer.specs.StatusBytes.{bootStatusAt, updateStatusAt}
 use Rattle.exchange.specs.declared.Next.{Next}
 use Rattle.exchange.specs.declared.Next.the-variants.{Nothing}
 use Rattle.exchange.specs.Order.{nextOperation, Run, run}
@@ -23,7 +23,7 @@ use Rattle.exchange.specs.LostPower.{Torn, tearNext}
 use Rattle.exchange.specs.Demand.{Exchange, update, fallback, jobOf, ReadsFirmware, Finished, Ending, untorn, lost, Event, Left, isCut, left, EndsAsAllowed, flagRank, FlagMovedOn, FlagNotBack, IsRefusal, MovesOn, CutOrDone, Answers}
 use Rattle.flash.proofs.Bytes.{sectors-front}
 use Rattle.flash.proofs.Checked.{shaped-of, shaped-fits, same-geometry}
-use Rattle.flash.proofs.Moves.{moved, legMoves, leg-below}
+use Rattle.trailer.proofs.Moves.{moved, legMoves, leg-below}
 use Rattle.exchange.proofs.Accepted.{Images}
 use Rattle.exchange.specs.RuledOut.{Good, Underway, from-new, from-success, from-testing}
 use Rattle.exchange.proofs.Stage.{Closing, erase-boot, write-testing, erase-update, write-success, Closed, on-test, fallen-back, Stage, in-leg, at-last, at-end, Stepped, stepped, step}

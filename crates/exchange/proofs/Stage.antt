@@ -8,18 +8,18 @@ use native.Mathlib.Omega.{arith}
 use lib.ListN.{length}
 use Rattle.refusals.specs.Answer.{gives}
 use Rattle.flash.specs.declared.Geometry.{Geometry}
-use Rattle.flash.specs.declared.BootStatus.{BootStatus}
-use Rattle.flash.specs.declared.BootStatus.the-variants.{New as BootNew, Testing, Success}
-use Rattle.flash.specs.declared.UpdateStatus.{UpdateStatus}
-use Rattle.flash.specs.declared.UpdateStatus.the-variants.{New as UpdateNew, Updating}
-use Rattle.flash.specs.declared.Leg.{Leg}
-use Rattle.flash.specs.declared.Leg.the-variants.{UpdateToSwap, BootToUpdate, SwapToBoot}
-use Rattle.flash.specs.declared.Flags.the-variants.{All0}
 use Rattle.flash.specs.Sizes.{firmware, Limits}
 use Rattle.flash.specs.Sectors.{sectorNumber, erased}
-use Rattle.flash.specs.StatusBytes.{bootStatusAt, updateStatusOf, updateStatusAt}
-use Rattle.flash.specs.SectorFlags.{flagsAt}
 use Rattle.flash.specs.Buffers.{Flash, Shaped}
+use Rattle.trailer.specs.declared.BootStatus.{BootStatus}
+use Rattle.trailer.specs.declared.BootStatus.the-variants.{New as BootNew, Testing, Success}
+use Rattle.trailer.specs.declared.UpdateStatus.{UpdateStatus}
+use Rattle.trailer.specs.declared.UpdateStatus.the-variants.{New as UpdateNew, Updating}
+use Rattle.trailer.specs.declared.Leg.{Leg}
+use Rattle.trailer.specs.declared.Leg.the-variants.{UpdateToSwap, BootToUpdate, SwapToBoot}
+use Rattle.trailer.specs.declared.Flags.the-variants.{All0}
+use Rattle.trailer.specs.StatusBytes.{bootStatusAt, updateStatusOf, updateStatusAt}
+use Rattle.trailer.specs.SectorFlags.{flagsAt}
 use Rattle.exchange.specs.declared.Area.the-variants.{Boot, Update as UpdateArea}
 use Rattle.exchange.specs.declared.Operation.{Operation}
 use Rattle.exchange.specs.declared.Operation.the-variants.{Erase, Copy, WriteFlag, EraseBootTrailer, EraseUpdateTrailer, WriteBootStatus}
@@ -31,9 +31,10 @@ use Rattle.exchange.specs.LostPower.{Torn, performTorn}
 use Rattle.exchange.specs.Demand.{Exchange, update, fallback, jobOf, LastBytes}
 use Rattle.exchange.specs.RuledOut.{Underway, from-new, from-success, from-testing}
 use Rattle.flash.proofs.Checked.{some-firmware}
-use Rattle.flash.proofs.Laws.{length-erased, sector-same, boot-erased, update-erased, boot-written, status-flag}
-use Rattle.flash.proofs.Shown.{shown-all-0}
-use Rattle.flash.proofs.Moves.{legMoves, atLeg, shown-leg}
+use Rattle.flash.proofs.Laws.{length-erased, sector-same}
+use Rattle.trailer.proofs.Laws.{boot-erased, update-erased, boot-written, status-flag}
+use Rattle.trailer.proofs.Shown.{shown-all-0}
+use Rattle.trailer.proofs.Moves.{legMoves, atLeg, shown-leg}
 use Rattle.exchange.proofs.Orders.{next-by-reads}
 use Rattle.exchange.proofs.Sound.{Sound, Crossed, Ready, put-shaped, put-boot-status, put-update-status, scratch, length-source, copied, advance, crossed, boot-trailer, boot-status, update-trailer}
 

@@ -3,16 +3,16 @@ use mathlib.Core.Path.{_≡_, refl, sym, subst}
 use Prim.Native.Nat.{ℕ, zero, suc, _+_, _-_, _≤_, min}
 use native.Mathlib.Omega.{arith}
 use Rattle.flash.specs.declared.Geometry.{Geometry}
-use Rattle.flash.specs.declared.BootStatus.{BootStatus}
-use Rattle.flash.specs.declared.UpdateStatus.{UpdateStatus}
 use Rattle.flash.specs.Sizes.{Limits}
 use Rattle.flash.specs.Buffers.{Flash}
+use Rattle.trailer.specs.declared.BootStatus.{BootStatus}
+use Rattle.trailer.specs.declared.UpdateStatus.{UpdateStatus}
 use Rattle.exchange.specs.declared.Operation.{Operation}
 use Rattle.exchange.specs.declared.Next.the-variants.{Nothing}
 use Rattle.exchange.specs.Operations.{perform, placeAfter}
 use Rattle.exchange.specs.Order.{nextOperation, Run, oneMore, run}
 use Rattle.exchange.specs.Demand.{Exchange, jobOf}
-use Rattle.flash.proofs.Moves.{leg-below}
+use Rattle.trailer.proofs.Moves.{leg-below}
 use Rattle.exchange.proofs.Runs.{run-none, run-some}
 use Rattle.exchange.specs.RuledOut.{Underway}
 use Rattle.exchange.proofs.Stage.{Closing, erase-boot, write-testing, erase-update, write-success, closingLeft, Stage, in-leg, at-last, at-end, Stepped, stepped, next-end, step}

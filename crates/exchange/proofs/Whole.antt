@@ -6,23 +6,23 @@ use Prim.Native.Nat.{ℕ, zero, suc, _+_, _-_, _*_, _≤_, _<_}
 use native.Mathlib.Omega.{arith}
 use Rattle.refusals.specs.Answer.{Answer, gives}
 use Rattle.flash.specs.declared.Geometry.{Geometry}
-use Rattle.flash.specs.declared.BootStatus.{BootStatus}
-use Rattle.flash.specs.declared.UpdateStatus.{UpdateStatus}
-use Rattle.flash.specs.declared.UpdateStatus.the-variants.{New as UpdateNew}
-use Rattle.flash.specs.declared.Flag.{Flag}
-use Rattle.flash.specs.declared.Flag.the-variants.{Untouched, Exchanged}
-use Rattle.flash.specs.declared.Leg.the-variants.{UpdateToSwap}
-use Rattle.flash.specs.declared.Flags.the-variants.{AllF}
 use Rattle.flash.specs.Sizes.{firmware, Limits}
-use Rattle.flash.specs.StatusBytes.{bootStatusAt, updateStatusAt}
-use Rattle.flash.specs.SectorFlags.{flagsAt}
 use Rattle.flash.specs.Buffers.{Flash, fits}
+use Rattle.trailer.specs.declared.BootStatus.{BootStatus}
+use Rattle.trailer.specs.declared.UpdateStatus.{UpdateStatus}
+use Rattle.trailer.specs.declared.UpdateStatus.the-variants.{New as UpdateNew}
+use Rattle.trailer.specs.declared.Flag.{Flag}
+use Rattle.trailer.specs.declared.Flag.the-variants.{Untouched, Exchanged}
+use Rattle.trailer.specs.declared.Leg.the-variants.{UpdateToSwap}
+use Rattle.trailer.specs.declared.Flags.the-variants.{AllF}
+use Rattle.trailer.specs.StatusBytes.{bootStatusAt, updateStatusAt}
+use Rattle.trailer.specs.SectorFlags.{flagsAt}
 use Rattle.exchange.specs.Operations.{get, oldBootIn, oldUpdateIn}
 use Rattle.exchange.specs.Decision.{Check}
 use Rattle.exchange.specs.PowerUp.{Outcome, refusal, cut, runs, runsOnTest, runsFallenBack}
 use Rattle.exchange.specs.Demand.{Exchange, update, ReadsFirmware, Finished, Ending, untorn, lost, Event, answer, isCut, leftBy, left, Allowed, flashAfter, completed, earlyEnds, InPlace, SectorExchanged, NoFlagBack, LastBytes, EachMovesOn, EachAnswers, most, bootAtFinish, Safe, Demand3}
 use Rattle.flash.proofs.Checked.{shaped-of, some-firmware}
-use Rattle.flash.proofs.Moves.{moved, moved-none, legMoves, leg-below, moves-none}
+use Rattle.trailer.proofs.Moves.{moved, moved-none, legMoves, leg-below, moves-none}
 use Rattle.exchange.proofs.Accepted.{Images, Armed, boot-new, boot-success, boot-testing, Accepted, accepted}
 use Rattle.exchange.specs.RuledOut.{Underway, from-new, from-success, from-testing}
 use Rattle.exchange.proofs.Stage.{closing, closingLeft, Closed, on-test, fallen-back, Stage, in-leg, at-last, at-end}

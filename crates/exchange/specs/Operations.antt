@@ -3,15 +3,15 @@ use mathlib.Core.List.{List}
 use Prim.Native.Nat.{ℕ, zero, suc}
 use Rattle.flash.specs.declared.Geometry.{Geometry}
 use Rattle.flash.specs.declared.SectorNumber.{SectorNumber}
-use Rattle.flash.specs.declared.Flag.{Flag}
-use Rattle.flash.specs.declared.Flag.the-variants.{Untouched, Saved, Moved, Exchanged}
-use Rattle.flash.specs.declared.Leg.{Leg}
-use Rattle.flash.specs.declared.Leg.the-variants.{UpdateToSwap, BootToUpdate, SwapToBoot}
 use Rattle.flash.specs.Sizes.{firmware}
 use Rattle.flash.specs.Sectors.{sectorOf, writeSector, erased}
-use Rattle.flash.specs.StatusBytes.{setBootStatus, setUpdateStatus}
-use Rattle.flash.specs.SectorFlags.{setFlag}
 use Rattle.flash.specs.Buffers.{Flash, flash}
+use Rattle.trailer.specs.declared.Flag.{Flag}
+use Rattle.trailer.specs.declared.Flag.the-variants.{Untouched, Saved, Moved, Exchanged}
+use Rattle.trailer.specs.declared.Leg.{Leg}
+use Rattle.trailer.specs.declared.Leg.the-variants.{UpdateToSwap, BootToUpdate, SwapToBoot}
+use Rattle.trailer.specs.StatusBytes.{setBootStatus, setUpdateStatus}
+use Rattle.trailer.specs.SectorFlags.{setFlag}
 use Rattle.exchange.specs.declared.Area.{Area}
 use Rattle.exchange.specs.declared.Area.the-variants.{Boot, Update, Swap}
 use Rattle.exchange.specs.declared.Operation.{Operation}

@@ -2,7 +2,7 @@
 use mathlib.Core.Path.{_≡_, refl, sym, ap, _∙_}
 use mathlib.Core.Bool.{Bool, true, false, _&&_}
 use mathlib.Core.List.{List}
-use Prim.Native.Nat.{ℕ, suc, _+_, _*_, _/_, _%_, _≤_, _<_}
+use Prim.Native.Nat.{ℕ, suc, _+_, _*_, _%_, _≤_, _<_}
 use native.Mathlib.Nat.{mul-le-mul, mul-le-mul-right, suc-mul, le-of-mul-le-mul-right}
 use native.Mathlib.Omega.{arith}
 use lib.ListN.{length}
@@ -11,7 +11,6 @@ use borrow.Author.Tests.{leb-true, eqb-true, le-leb, eq-eqb}
 use Rattle.flash.specs.declared.Geometry.{Geometry}
 use Rattle.flash.specs.Sizes.{firmware, partitionSize, withinLimits, Limits}
 use Rattle.flash.specs.Sectors.{Partition}
-use Rattle.flash.specs.SectorFlags.{flagByte}
 use Rattle.flash.specs.Buffers.{Flash, partitionFits, fits, Shaped}
 
 and-left : (a b : Bool) → a && b ≡ true → a ≡ true
@@ -66,17 +65,6 @@ size-split g G = ap (λ (n : ℕ). n * g .size) (sectors-are g G) ∙ suc-mul (f
 
 pub size-small : (g : Geometry) → Limits g → partitionSize g ≤ 64 * 131072
 size-small g G = mul-le-mul (G .many) (G .large)
-
--- the status byte, and the byte of sector i's flag, lie in the partition
-pub status-room : (g : Geometry) → Limits g → 256 ≤ partitionSize g
-status-room g G = omega (arith, size-split g G, G .small)
-
-pub flag-room : (g : Geometry) → Limits g → (i : ℕ) → i < firmware g → 3 + i / 2 ≤ partitionSize g
-flag-room g G i h = omega (arith, size-split g G, G .trailer, G .small, mul-le-mul-right (g .size) (some-firmware g G))
-
-pub flag-inside : (g : Geometry) → Limits g → (i : ℕ) → i < firmware g → flagByte g i < partitionSize g
-unfolding flagByte
-flag-inside g G i h = omega (arith, flag-room g G i h)
 
 -- sector i ends within the partition, before any later sector begins
 pub sector-end : (s i j : ℕ) → i < j → i * s + s ≤ j * s

@@ -2,12 +2,7 @@
 -- The rules of a geometry and of the lengths as facts; what the checks answer
 pub mod Checked
 pub mod Answers
--- parts of a list and writes over them; a lent part, erased and copied; half bytes
+-- parts of a list and writes over them; a lent part, erased and copied; the write of a sector against every sector
 pub mod Bytes
 pub mod Lent
-pub mod Halves
--- the loops over the flags; what the flags show; each write against every sector, flag and status byte; flags that move on
-pub mod Scan
-pub mod Shown
 pub mod Laws
-pub mod Moves

@@ -1,14 +1,14 @@
 // Prints what the flash answers in document 01's marked cases 11 and 12 and around them, and what flag bytes show.
-use flash::BootStatus;
-use flash::BootStatusAnswer;
 use flash::CopyAnswer;
-use flash::Flags;
 use flash::Geometry;
 use flash::GeometryAnswer;
-use flash::Leg;
-use flash::UpdateStatus;
-use flash::UpdateStatusAnswer;
 use libc::STDOUT_FILENO;
+use trailer::BootStatus;
+use trailer::BootStatusAnswer;
+use trailer::Flags;
+use trailer::Leg;
+use trailer::UpdateStatus;
+use trailer::UpdateStatusAnswer;
 
 fn print(text: &[u8]) {
     io::write_all(STDOUT_FILENO, text);
@@ -116,14 +116,14 @@ fn print_update(answer: UpdateStatusAnswer) {
 // The status of a partition of two sectors of 256 bytes.
 fn boot_status(boot: &[u8]) {
     match flash::check_partition(2, 256, boot) {
-        GeometryAnswer::Fits(g) => print_boot(flash::read_boot_status(g, boot)),
+        GeometryAnswer::Fits(g) => print_boot(trailer::read_boot_status(g, boot)),
         GeometryAnswer::Outside => print(b": refused 1 at 0\n"),
     }
 }
 
 fn update_status(update: &[u8]) {
     match flash::check_partition(2, 256, update) {
-        GeometryAnswer::Fits(g) => print_update(flash::read_update_status(g, update)),
+        GeometryAnswer::Fits(g) => print_update(trailer::read_update_status(g, update)),
         GeometryAnswer::Outside => print(b": refused 1 at 0\n"),
     }
 }
@@ -165,7 +165,7 @@ fn print_flags(flags: Flags) {
 // The flags of a partition of n sectors of 256 bytes.
 fn flags(n: usize, update: &[u8]) {
     match flash::check_partition(n, 256, update) {
-        GeometryAnswer::Fits(g) => print_flags(flash::read_flags(g, update)),
+        GeometryAnswer::Fits(g) => print_flags(trailer::read_flags(g, update)),
         GeometryAnswer::Outside => print(b": refused 1 at 0\n"),
     }
 }

@@ -220,7 +220,7 @@ fn read_u64(h: &[u8], at: usize) -> u64
 }
 
 // The bytes at a place.
-fn copy_32(h: &[u8], at: usize) -> [u8; 32]
+pub fn copy_32(h: &[u8], at: usize) -> [u8; 32]
     requires { ⌜ at + 32 ≤ length (now h) ⌝ }
     ensures { λ r. ⌜ r ≡ part (now (h .entry)) at 32 ⌝ }
 {
@@ -229,7 +229,7 @@ fn copy_32(h: &[u8], at: usize) -> [u8; 32]
     b
 }
 
-fn copy_64(h: &[u8], at: usize) -> [u8; 64]
+pub fn copy_64(h: &[u8], at: usize) -> [u8; 64]
     requires { ⌜ at + 64 ≤ length (now h) ⌝ }
     ensures { λ r. ⌜ r ≡ part (now (h .entry)) at 64 ⌝ }
 {

@@ -8,7 +8,7 @@ use lib.Dec.{ltb, eqb}
 use lib.ListN.{length, take, drop}
 use borrow.Author.Tests.{lt-ltb, le-ltb, eq-eqb, eqb-true}
 use Rattle.refusals.specs.Answer.{Answer, gives, refused, then}
-use Rattle.sha256.specs.Fips.{sha256}
+use Rattle.fips180.specs.Sha256.{sha256}
 use Rattle.header.specs.declared.Header.{Header}
 use Rattle.header.specs.declared.HeaderAnswer.{HeaderAnswer}
 use Rattle.header.specs.declared.HeaderOutcome.{HeaderOutcome}

@@ -6,7 +6,7 @@ use mathlib.Core.List.{List, [], _∷_}
 use lib.Dec.{ltb, eqb}
 use lib.ListN.{length, take, drop}
 use Rattle.refusals.specs.Answer.{Answer, gives, refused, then}
-use Rattle.sha256.specs.Fips.{sha256}
+use Rattle.fips180.specs.Sha256.{sha256}
 use Rattle.header.specs.declared.Header.{Header}
 use Rattle.header.specs.Reading.{readHeader, valuesOf}
 use Rattle.header.specs.Reading as header

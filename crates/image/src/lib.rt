@@ -3,7 +3,7 @@ use flash::GeometryAnswer;
 use header::Header;
 use header::HeaderOutcome;
 ghost use mathlib.Core.Path.{_≡_};
-ghost use Rattle.sha256.specs.Fips.{sha256};
+ghost use Rattle.fips180.specs.Sha256.{sha256};
 ghost use Rattle.header.specs.Reading.{blank};
 ghost use Rattle.image.specs.Check.{same, imageIn, checkImage, Checks};
 

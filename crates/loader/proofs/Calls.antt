@@ -6,11 +6,11 @@ use native.Mathlib.Omega.{arith}
 use Rattle.refusals.specs.Answer.{Answer, gives, refused}
 use Rattle.flash.specs.declared.Geometry.{Geometry}
 use Rattle.flash.specs.Sizes.{geometry, geometryWhere}
-use Rattle.flash.specs.StatusBytes.{bootStatusAt, updateStatusAt}
-use Rattle.flash.specs.SectorFlags.{flagsAt}
 use Rattle.flash.specs.Buffers.{Flash, fits, flashOf}
 use Rattle.flash.proofs.Checked.{shaped-fits}
 use Rattle.flash.proofs.Answers.{flash-given}
+use Rattle.trailer.specs.StatusBytes.{bootStatusAt, updateStatusAt}
+use Rattle.trailer.specs.SectorFlags.{flagsAt}
 use Rattle.exchange.specs.Decision.{Check, Plan, decideStatuses, decide}
 use Rattle.exchange.specs.PowerUp.{refusal, idle, carryOut, powerUp}
 use Rattle.exchange.specs.Commands.{command, withStatuses, mayArm, armOperations, arm, mayConfirm, confirmOperations, confirm}

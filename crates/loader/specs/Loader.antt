@@ -1,63 +1,17 @@
 -- What power-up, arm and confirm promise: the rules of `exchange` with the delivered image check, and 01's numbers for each case of
 -- the code's answers.
 use Prim.Native.Nat.{ℕ}
-use Rattle.refusals.specs.Answer.{Answer, gives, refused, then}
-use Rattle.flash.specs.Sectors.{firmwareOf}
+use Rattle.refusals.specs.Answer.{Answer, gives, refused}
 use Rattle.flash.specs.Buffers.{Flash}
-use Rattle.image.specs.declared.ImageOutcome.{ImageOutcome}
-use Rattle.image.specs.Check.{answerOf, imageIn}
-use Rattle.exchange.specs.Decision as decision
-use Rattle.exchange.specs.Decision.{Check, because, noReason}
 use Rattle.exchange.specs.PowerUp as power-up
 use Rattle.exchange.specs.PowerUp.{PowerUp, refusal, cut, runs, runsOnTest, runsFallenBack}
 use Rattle.exchange.specs.Commands.{Command}
-use Rattle.loader.specs.declared.Refusal.{Refusal}
-use Rattle.loader.specs.declared.Refusal.the-variants.{OutsideRules, StatusNotAllowed, FlagsMalformed, BadBoot, NoFallback}
-use Rattle.loader.specs.declared.Reason.{Reason}
-use Rattle.loader.specs.declared.Reason.the-variants.{None, BadUpdate, NotNewer}
+use Rattle.decision.specs.Numbers.{numbersOf, reasonOf, commandNumber}
 use Rattle.loader.specs.declared.Outcome.{Outcome}
 use Rattle.loader.specs.declared.Outcome.the-variants.{Refused, Cut, Run, RunOnTest, RunFallenBack}
 use Rattle.loader.specs.declared.PowerUpAnswer.{PowerUpAnswer}
-use Rattle.loader.specs.declared.CommandRefusal.{CommandRefusal}
-use Rattle.loader.specs.declared.CommandRefusal.the-variants.{OutsideRules as CommandOutside, StatusNotAllowed as CommandStatus, FlagsMalformed as CommandFlags, WrongTime}
 use Rattle.loader.specs.declared.CommandAnswer.{CommandAnswer}
 use Rattle.loader.specs.declared.CommandAnswer.the-variants.{Done, Refused as CommandRefused}
-
--- "Image check", as power-up uses it: the version of the image in the firmware sectors, or its refusal. The trailer sector has no say.
-unfoldable pub checkOf : Check
-checkOf g l = then (imageIn (firmwareOf g l)) (λ h. gives (h .version))
-
--- A bad image's own number and place, which 12, 13 and a turning-down reason carry. For a good image, which none of them is about, 0
--- stands there, which is no number of 01.
-pub record Own : Type 0 where
-  pub number : ℕ
-  pub place : ℕ
-
-abbrev pub own : Answer (Unit {0}) → Own
-own (gives t) = record { number = 0; place = 0 }
-own (refused n p) = record { number = n; place = p }
-
-abbrev pub ownOf : ImageOutcome → Own
-ownOf o = own (answerOf o tt)
-
--- "Numbers given back", of a power-up: a number, and the own number and place of a bad image within it, else 0 and 0.
-pub record Numbers : Type 0 where
-  pub number : ℕ
-  pub inner : ℕ
-  pub place : ℕ
-
-abbrev pub alone : ℕ → Numbers
-alone n = record { number = n; inner = 0; place = 0 }
-
-abbrev pub with : ℕ → ImageOutcome → Numbers
-with n o = record { number = n; inner = ownOf o .number; place = ownOf o .place }
-
-abbrev pub numbersOf : Refusal → Numbers
-numbersOf OutsideRules = alone 1
-numbersOf StatusNotAllowed = alone 10
-numbersOf FlagsMalformed = alone 11
-numbersOf (BadBoot o) = with 12 o
-numbersOf (NoFallback o) = with 13 o
 
 -- "Power-up": its outcomes.
 abbrev pub outcomeOf : Outcome → power-up.Outcome
@@ -67,22 +21,9 @@ outcomeOf Run = runs
 outcomeOf RunOnTest = runsOnTest
 outcomeOf RunFallenBack = runsFallenBack
 
--- "Turning down": its reason, UPDATE's own refusal or 15.
-abbrev pub reasonOf : Reason → decision.Reason
-reasonOf None = noReason
-reasonOf (BadUpdate o) = because (ownOf o .number) (ownOf o .place)
-reasonOf NotNewer = because 15 0
-
 -- What a power-up answers, and the flash that it leaves.
 abbrev pub answered : PowerUpAnswer → Flash → PowerUp
 answered a f = record { outcome = outcomeOf (a .outcome); reason = reasonOf (a .reason); count = a .count; flash = f }
-
--- "Numbers given back", of arm and confirm.
-abbrev pub commandNumber : CommandRefusal → ℕ
-commandNumber CommandOutside = 1
-commandNumber CommandStatus = 10
-commandNumber CommandFlags = 11
-commandNumber WrongTime = 14
 
 -- "Arm" and "Confirm": the number of operations done, or a refusal, at no place; and the flash that they leave.
 abbrev pub commandOf : CommandAnswer → Answer ℕ

@@ -1,51 +1,30 @@
 // Power-up, arm and confirm on three lent buffers: BOOT, UPDATE and SWAP.
-mod decision;
-mod reading;
-mod steps;
-
+use decision::CommandRefusal;
 use decision::Permit;
 use decision::Plan;
+use decision::Reason;
+use decision::Refusal;
+use decision::Verdict;
 use exchange::Job;
 use exchange::Next;
 use exchange::Operation;
-use flash::BootStatus;
 use flash::Geometry;
 use flash::GeometryAnswer;
-use flash::UpdateStatus;
-use image::ImageOutcome;
-use reading::Verdict;
+use trailer::BootStatus;
+use trailer::UpdateStatus;
 ghost use mathlib.Core.Path.{_≡_};
 ghost use Rattle.flash.specs.Sizes.{geometry};
 ghost use Rattle.flash.specs.Sectors.{Partition};
-ghost use Rattle.flash.specs.StatusBytes.{bootStatusAt, updateStatusAt};
-ghost use Rattle.flash.specs.SectorFlags.{flagsAt};
 ghost use Rattle.flash.specs.Buffers.{flash, Shaped};
+ghost use Rattle.trailer.specs.StatusBytes.{bootStatusAt, updateStatusAt};
+ghost use Rattle.trailer.specs.SectorFlags.{flagsAt};
 ghost use Rattle.exchange.specs.Order.{orderedBy, run};
 ghost use Rattle.exchange.specs.PowerUp.{ifBootGood, doneOutcome, outcomeBy, worked, carryOut, powerUp};
 ghost use Rattle.exchange.specs.Commands.{command, armOperations, arm, confirmOperations, confirm};
-ghost use Rattle.loader.specs.Loader.{checkOf, outcomeOf, reasonOf, answered, commanded};
-ghost use Rattle.loader.specs.Parts.{planOf, permitOf, idleAnswer};
-
-// Why a power-up is refused.
-pub enum Refusal {
-    // Geometry or a length outside the rules.
-    OutsideRules,
-    // A status byte that BOOT or UPDATE may not hold.
-    StatusNotAllowed,
-    FlagsMalformed,
-    // The image in BOOT is bad.
-    BadBoot(ImageOutcome),
-    // The image in UPDATE, to fall back to, is bad.
-    NoFallback(ImageOutcome),
-}
-
-// Why an update was turned down.
-pub enum Reason {
-    // None was.
-    None,
-    BadUpdate(ImageOutcome),
-    NotNewer,
-}
+ghost use Rattle.decision.specs.Numbers.{checkOf, reasonOf};
+ghost use Rattle.decision.specs.Parts.{planOf, permitOf};
+ghost use Rattle.loader.specs.Loader.{outcomeOf, answered, commanded};
+ghost use Rattle.loader.specs.Parts.{idleAnswer};
 
 // Document 01's "cut", "run", "run on test" and "run, fallen back", or a refusal.
 pub enum Outcome {
@@ -61,14 +40,6 @@ pub struct PowerUpAnswer {
     pub outcome: Outcome,
     pub reason: Reason,
     pub count: u64,
-}
-
-// Why arm or confirm is refused.
-pub enum CommandRefusal {
-    OutsideRules,
-    StatusNotAllowed,
-    FlagsMalformed,
-    WrongTime,
 }
 
 // What arm and confirm answer: done, with the number of operations, or refused.
@@ -95,7 +66,7 @@ fn if_boot_good(g: Geometry, outcome: Outcome, boot: &[u8]) -> Outcome
     requires { ⌜ Partition g (now boot) ⌝ }
     ensures { λ r. ⌜ outcomeOf r ≡ ifBootGood (outcomeOf outcome) (checkOf g (now (boot .entry))) ⌝ }
 {
-    match reading::check_image(g, boot) {
+    match decision::check_image(g, boot) {
         Verdict::Good(_) => outcome,
         Verdict::Bad(o) => Outcome::Refused(Refusal::BadBoot(o)),
     }

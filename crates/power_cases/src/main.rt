@@ -1,14 +1,14 @@
 // Runs power-up, arm and confirm on real images, three sectors of 256: every budget from 0 to 25 and every pair of them, on an update and on
 // a fallback; document 01's marked cases on real images; and what is turned down or refused.
+use decision::CommandRefusal;
+use decision::Reason;
+use decision::Refusal;
 use header::Header;
 use image::ImageOutcome;
 use libc::STDOUT_FILENO;
 use listing::Verdict;
 use loader::CommandAnswer;
-use loader::CommandRefusal;
 use loader::Outcome;
-use loader::Reason;
-use loader::Refusal;
 use sha256::Hasher;
 
 const SECTORS: usize = 3;

@@ -7,7 +7,7 @@ use native.Mathlib.Omega.{arith}
 use lib.ListN.{length, take, drop, replicate, length-append, length-drop}
 use lib.Seq.{take-at, length-take-le, take-append-le, drop-append-le, drop-drop}
 use Rattle.sha256.specs.declared.Hasher.{Hasher}
-use Rattle.sha256.specs.Fips.{block, words, zeros, bigEndian, padding, pad, H0, compress, hash, bytes, sha256}
+use Rattle.fips180.specs.Sha256.{block, words, zeros, bigEndian, padding, pad, H0, compress, hash, bytes, sha256}
 use Rattle.sha256.specs.Parts.{settle, stateOf, waiting, absorbOf, absorbAll, joined, finishOf}
 use Rattle.sha256.specs.Claims.{ConcatenationLaw, AbsorbLaw, FinishLaw, PartsLaw}
 

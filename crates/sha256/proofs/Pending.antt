@@ -1,13 +1,13 @@
 -- The pending block, and the padding, as the code makes them.
 use mathlib.Core.Path.{_≡_, refl, sym, ap, ap₂, _∙_}
-use mathlib.Core.List.{List, [], _∷_, _++_, append-nil}
+use mathlib.Core.List.{List, [], _∷_, _++_, append-nil, append-assoc}
 use Prim.Native.Nat.{ℕ, _+_, _-_, _*_, _/_, _%_, _^_, _≤_, _<_}
 use native.Mathlib.Nat.{zero-add}
 use native.Mathlib.Omega.{arith}
 use lib.ListN.{length, take, drop, replicate, length-append, length-drop, length-replicate, replicate-append-replicate, take-append-drop, drop-of-length-le}
 use lib.Seq.{paste, take-at, drop-at, take-length, take-all, take-append-le, length-take-le, drop-drop}
 use Rattle.sha256.specs.declared.Hasher.{Hasher}
-use Rattle.sha256.specs.Fips.{block, words, zeros, bigEndian, padding, compress, hash}
+use Rattle.fips180.specs.Sha256.{block, words, zeros, bigEndian, padding, compress, hash}
 use Rattle.sha256.specs.Parts.{settle, waiting, absorbOf}
 use Rattle.sha256.proofs.Concatenation.{same, length-waiting, concatenation, field-wrap}
 
@@ -105,15 +105,78 @@ full-count d e a h f =
 
 -- ---- the padding
 
--- the mark and the zeros, and then the length, are the padding
-pub padding-law : (d : Hasher) (z : ℕ) {t f : List ℕ} {e r : Hasher} → z ≡ (119 - d .count % 64) % 64 → t ≡ 0x80 ∷ replicate 63 0
-    → f ≡ bigEndian 8 (d .count * 2 ^ 3 % 2 ^ 64) → e ≡ absorbOf d (take (z + 1) t) → r ≡ absorbOf e f → r ≡ absorbOf d (padding (d .count))
+-- the length at the end of a block
+pub end-law : (b : List ℕ) (n : ℕ) {f r : List ℕ} → length b ≡ 64 → f ≡ bigEndian 8 n → r ≡ paste b 56 f (length f) → r ≡ take 56 b ++ bigEndian 8 n
+unfolding bigEndian
+end-law b n h ef er =
+    let e : List ℕ = bigEndian 8 n in
+    er ∙ ap (λ (x : List ℕ). paste b 56 x (length x)) ef ∙ ap (λ (x : List ℕ). (take 56 b ++ e) ++ x) (drop-of-length-le b {i = 64} (omega arith))
+    ∙ append-nil (take 56 b ++ e)
+
+-- zeros in two parts
+zeros-split : (a b n : ℕ) → n ≡ a + b → replicate {A = ℕ} n 0 ≡ replicate a 0 ++ replicate b 0
+zeros-split a b n e = ap (λ (x : ℕ). replicate x 0) e ∙ sym (replicate-append-replicate a b 0)
+
+-- zeros and the length
+abbrev tail : ℕ → ℕ → List ℕ
+tail z n = replicate z 0 ++ bigEndian 8 n
+
+length-tail : (z n : ℕ) → length (tail z n) ≡ z + 8
+unfolding bigEndian
+length-tail z n = length-append (replicate z 0) (bigEndian 8 n) ∙ ap (λ (x : ℕ). x + 8) (length-replicate z 0)
+
+-- a part that fills the pending block: the words after it
+filled : (d : Hasher) (p : List ℕ) {t h : List ℕ} → d .count % 64 + length p ≡ 64 → t ≡ waiting d ++ p → h ≡ compress (d .words) (words t)
+    → _≡_ {A = Hasher} (record { words = h; pending = replicate 64 0; count = (d .count + length p) % 2 ^ 64 }) (absorbOf d p)
+filled d p h et eh =
+    let z : 0 ≡ 64 - (d .count % 64 + length p) = omega arith in
+    full-law d p h (et ∙ sym (append-nil (waiting d ++ p)) ∙ ap (λ (x : ℕ). (waiting d ++ p) ++ replicate x 0) z) eh refl
+
+nothing-waits : (d : Hasher) → d .count % 64 ≡ 0 → waiting d ≡ []
+unfolding waiting
+nothing-waits d e = ap (λ (x : ℕ). take x (d .pending ++ replicate 64 0)) e
+
+-- t is the pending block with the mark, and b the last block: the padding ends the pending block
+pub ends-law : (d : Hasher) {t b h : List ℕ} → d .count % 64 < 56 → t ≡ (waiting d ++ 0x80 ∷ []) ++ replicate (64 - (d .count % 64 + 1)) 0
+    → b ≡ take 56 t ++ bigEndian 8 (d .count * 2 ^ 3 % 2 ^ 64) → h ≡ compress (d .words) (words b) → h ≡ absorbOf d (padding (d .count)) .words
 unfolding padding zeros
-padding-law d z {t} {f} ez et ef ee er =
-    let s : 63 ≡ z + (63 - z) = omega arith in
-    let m : take (z + 1) t ≡ 0x80 ∷ replicate z 0 =
-    ap (take (z + 1)) (et ∙ ap (λ x. 0x80 ∷ replicate x 0) s ∙ ap (λ x. 0x80 ∷ x) (sym (replicate-append-replicate z (63 - z) 0)))
-    ∙ take-at (0x80 ∷ replicate z 0) (replicate (63 - z) 0) (z + 1) (simp length-replicate (omega arith)) in
-    let l : f ≡ bigEndian 8 (8 * d .count) = ef ∙ field-wrap _ _ (omega arith) in
-    er ∙ ap₂ absorbOf (ee ∙ ap (absorbOf d) m) l ∙ concatenation d (0x80 ∷ replicate z 0) (bigEndian 8 (8 * d .count))
-    ∙ ap (λ x. absorbOf d (0x80 ∷ (replicate x 0 ++ bigEndian 8 (8 * d .count)))) ez
+ends-law d {t} h et eb eh =
+    let z : ℕ = 55 - d .count % 64 in
+    let m : List ℕ = waiting d ++ 0x80 ∷ [] in
+    let e : z ≡ (119 - d .count % 64) % 64 = omega arith in
+    let lm : length m ≡ d .count % 64 + 1 = length-all d (0x80 ∷ []) in
+    let lz : length (m ++ replicate z 0) ≡ length m + z = length-append m (replicate z 0) ∙ ap (λ (x : ℕ). length m + x) (length-replicate z 0) in
+    let u = ap (λ (x : List ℕ). m ++ x) (zeros-split z 8 (64 - (d .count % 64 + 1)) (omega arith)) ∙ sym (append-assoc m (replicate z 0) (replicate 8 0)) in
+    let v : take 56 t ≡ m ++ replicate z 0 = ap (take 56) (et ∙ u) ∙ take-at (m ++ replicate z 0) (replicate 8 0) 56 (omega arith) in
+    let f = field-wrap (d .count * 2 ^ 3 % 2 ^ 64) (8 * d .count) (omega arith) in
+    let w =
+    eb ∙ ap₂ (λ (x y : List ℕ). x ++ y) v f ∙ append-assoc m (replicate z 0) (bigEndian 8 (8 * d .count))
+    ∙ append-assoc (waiting d) (0x80 ∷ []) (tail z (8 * d .count)) in
+    let l = length-tail z (8 * d .count) in
+    ap (λ (x : Hasher). x .words) (filled d (0x80 ∷ tail z (8 * d .count)) (omega arith) w eh)
+    ∙ ap (λ (x : ℕ). absorbOf d (0x80 ∷ tail x (8 * d .count)) .words) e
+
+-- the padding takes one block more
+pub more-law : (d : Hasher) {t b s h : List ℕ} → 56 ≤ d .count % 64 → t ≡ (waiting d ++ 0x80 ∷ []) ++ replicate (64 - (d .count % 64 + 1)) 0
+    → s ≡ compress (d .words) (words t) → b ≡ take 56 (replicate 64 0) ++ bigEndian 8 (d .count * 2 ^ 3 % 2 ^ 64) → h ≡ compress s (words b)
+    → h ≡ absorbOf d (padding (d .count)) .words
+unfolding padding zeros
+more-law d {t} {b} {s} h et es eb eh =
+    let z : ℕ = 64 - (d .count % 64 + 1) in
+    let p : List ℕ = 0x80 ∷ replicate z 0 in
+    let q : List ℕ = tail 56 (8 * d .count) in
+    let lz : length {A = ℕ} (replicate z 0) ≡ z = length-replicate z 0 in
+    let lp : length p ≡ z + 1 = omega arith in
+    let e : z + 56 ≡ (119 - d .count % 64) % 64 = omega arith in
+    let one = filled d p (omega arith) (et ∙ append-assoc (waiting d) (0x80 ∷ []) (replicate z 0)) es in
+    let n : ℕ = (d .count + length p) % 2 ^ 64 in
+    let full : Hasher = record { words = s; pending = replicate 64 0; count = n } in
+    let c : n % 64 ≡ 0 = omega arith in
+    let f = field-wrap (d .count * 2 ^ 3 % 2 ^ 64) (8 * d .count) (omega arith) in
+    let none : waiting full ≡ [] = nothing-waits full c in
+    let w = eb ∙ ap (λ (x : List ℕ). replicate 56 0 ++ x) f ∙ ap (λ (x : List ℕ). x ++ q) (sym none) in
+    let two = filled full q (omega (arith, length-tail 56 (8 * d .count))) w eh in
+    ap (λ (x : Hasher). x .words) (two ∙ ap (λ (x : Hasher). absorbOf x q) one ∙ concatenation d p q)
+    ∙ ap (λ (x : List ℕ). absorbOf d (0x80 ∷ x) .words)
+    (sym (append-assoc (replicate z 0) (replicate 56 0) (bigEndian 8 (8 * d .count)))
+    ∙ ap (λ (x : List ℕ). x ++ bigEndian 8 (8 * d .count)) (sym (zeros-split z 56 _ (sym e))))

@@ -1,4 +1,3 @@
--- SHA-256: the standard, the message in parts, and what is claimed of both.
-pub mod Fips
+-- SHA-256 of a message in parts, and what is claimed of it.
 pub mod Parts
 pub mod Claims

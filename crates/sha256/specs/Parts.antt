@@ -3,7 +3,7 @@ use Prim.Native.Nat.{ℕ, _+_, _-_, _*_, _/_, _%_, _^_}
 use mathlib.Core.List.{List, [], _∷_, _++_}
 use lib.ListN.{length, take, drop, replicate}
 use Rattle.sha256.specs.declared.Hasher.{Hasher}
-use Rattle.sha256.specs.Fips.{H0, padding, hash, bytes}
+use Rattle.fips180.specs.Sha256.{H0, padding, hash, bytes}
 
 -- The state that takes the hash value h over the whole blocks of b, keeps the bytes after them, with zeros up to 64, and has
 -- counted n bytes.

@@ -4,10 +4,8 @@ ghost use Prim.Native.Nat.{_+_, _-_, _*_, _/_, _%_, _≤_, _<_};
 ghost use mathlib.Core.List.{[], _∷_, _++_};
 ghost use lib.ListN.{length, take, replicate};
 ghost use lib.Seq.{paste};
-ghost use Rattle.sha256.specs.Fips as fips;
+ghost use Rattle.fips180.specs.Sha256 as fips;
 ghost use Rattle.sha256.specs.Parts as parts;
-
-mod block;
 
 // 5.3.3: the initial hash value.
 const H0: [u32; 8] = [
@@ -20,23 +18,6 @@ const H0: [u32; 8] = [
     0x1f83d9ab,
     0x5be0cd19,
 ];
-
-// 6.2.2: the hash value after the whole blocks of m, from h on.
-fn hash(h: [u32; 8], m: &[u8]) -> [u32; 8]
-    ensures { λ r. ⌜ r ≡ fips.hash h (now (m .entry)) (length (now (m .entry)) / 64) ⌝ }
-{
-    let n = m.len() / 64;
-    let mut s = h;
-    let mut i: usize = 0;
-    while i < n {
-        let at = 64 * i;
-        let end = at + 64;
-        let x = block::compress(s, &m[at..end]);
-        s = x;
-        i += 1;
-    }
-    s
-}
 
 // The bytes of part over those of t, from at on.
 fn put(t: [u8; 64], at: usize, part: &[u8]) -> [u8; 64]
@@ -96,13 +77,12 @@ fn bytes(h: [u32; 8]) -> [u8; 32]
     r
 }
 
-// 5.1.1: a block of the byte 0x80 and zeros.
-fn mark() -> [u8; 64]
-    ensures { λ r. ⌜ r ≡ 0x80 ∷ replicate 63 0 ⌝ }
+// 5.1.1: the last block of a padded message: the first 56 bytes of b, and the length in bits.
+fn last_block(b: [u8; 64], bits: u64) -> [u8; 64]
+    ensures { λ r. ⌜ r ≡ take 56 b ++ fips.bigEndian 8 bits ⌝ }
 {
-    let mut t = [0u8; 64];
-    t[0] = 0x80;
-    t
+    let length = length_field(bits);
+    put(b, 56, &length)
 }
 
 // What has been absorbed of a message: the hash value after its whole blocks, the bytes after them, and how many bytes in all.
@@ -142,7 +122,7 @@ impl Hasher {
             };
         }
         Hasher {
-            words: block::compress(h, &p),
+            words: sha256_block::compress(h, &p),
             pending: [0u8; 64],
             count,
         }
@@ -156,7 +136,7 @@ impl Hasher {
         let h = self.words;
         let from = part.len() - part.len() % 64;
         Hasher {
-            words: hash(h, part),
+            words: sha256_block::hash(h, part),
             pending: put([0u8; 64], 0, &part[from..]),
             count: std::num::wrapping_add_u64(self.count, part.len() as u64),
         }
@@ -175,19 +155,23 @@ impl Hasher {
         d.absorb_blocks(&part[k..])
     }
 
-    // The digest of what has been absorbed. The padding of 5.1.1 is absorbed as two parts: the byte 0x80 with the zeros, and the
-    // length in bits.
+    // The digest of what has been absorbed. The padding of 5.1.1 ends the pending block, or takes one block more.
     pub fn finish(self) -> [u8; 32]
         ensures { λ r. ⌜ r ≡ parts.finishOf self ⌝ }
     {
-        let count = self.count;
-        let zeros = ((119 - count % 64) % 64) as usize;
-        let n = zeros + 1;
-        let t = mark();
-        let length = length_field(count << 3);
-        let d = self.absorb(&t[..n]).absorb(&length);
-        let words = d.words;
-        bytes(words)
+        let h = self.words;
+        let old = self.pending;
+        let bits = self.count << 3;
+        let fill = (self.count % 64) as usize;
+        let mark = [0x80u8; 1];
+        let p = join(old, fill, &mark);
+        if fill < 56 {
+            let b = last_block(p, bits);
+            return bytes(sha256_block::compress(h, &b));
+        }
+        let s = sha256_block::compress(h, &p);
+        let b = last_block([0u8; 64], bits);
+        bytes(sha256_block::compress(s, &b))
     }
 }
 
@@ -196,6 +180,6 @@ pub fn digest(bytes: &[u8]) -> [u8; 32]
     ensures { λ r. ⌜ r ≡ fips.sha256 (now (bytes .entry)) ⌝ }
 {
     let empty = Hasher::new();
-    let whole = empty.absorb(bytes);
+    let whole = empty.absorb_blocks(bytes);
     whole.finish()
 }

@@ -4,7 +4,7 @@ use Prim.Native.Nat.{ℕ}
 use mathlib.Core.List.{List, [], _∷_}
 use lib.ListN.{length}
 use borrow.Author.Tests.{eq-eqb}
-use Rattle.refusals.specs.Answer.{Answer, gives, refused}
+use Rattle.refusals.specs.Answer.{Answer}
 use Rattle.flash.specs.Sizes.{geometry}
 use Rattle.flash.specs.Buffers.{Flash}
 use Rattle.header.specs.declared.Header.{Header}
@@ -21,16 +21,19 @@ use Rattle.image.specs.Check as image
 use Rattle.image.specs.Check.{Checks, checkImage}
 use Rattle.exchange.specs.PowerUp.{powerUp}
 use Rattle.exchange.specs.Commands.{Command}
+use Rattle.decision.specs.Numbers.{checkOf, reasonOf}
 use Rattle.loader.specs.declared.PowerUpAnswer.{PowerUpAnswer}
 use Rattle.loader.specs.declared.CommandAnswer.{CommandAnswer}
-use Rattle.loader.specs.Loader.{checkOf, own, ownOf, outcomeOf, reasonOf, answered, commandOf, commanded}
+use Rattle.loader.specs.Loader.{outcomeOf, answered, commandOf, commanded}
 use Rattle.tags.specs.Walk.{Item, walkAt, placeAfter}
-use Rattle.tainhosa.specs.declared.numbers.Refused.{Refused}
-use Rattle.tainhosa.specs.declared.numbers.Ended.{Ended}
-use Rattle.tainhosa.specs.Numbers.{refusedAt, refusalOf, headerRefusal, imageRefusal}
-use Rattle.tainhosa.specs.Headers.{numbersOf, bytesOf, Given, given, readAnswer, checkAnswer, Wrote, wrote, writeAnswer}
-use Rattle.tainhosa.specs.Walking.{rowOf, Walked, tagAnswer}
-use Rattle.tainhosa.specs.Loading.{endedOf, reasonRefusal, powerRow, Loaded, poweredUp, powerUpAnswer, countOf, obeyed, commandAnswer}
+use Rattle.c_answers.specs.declared.Refused.{Refused}
+use Rattle.c_answers.specs.declared.Ended.{Ended}
+use Rattle.c_answers.specs.Numbers.{refusalOf, headerRefusal, imageRefusal, endedOf, reasonRefusal, countOf}
+use Rattle.c_answers.specs.Rows.{numbersOf, bytesOf, rowOf, powerRow}
+use Rattle.c_answers.proofs.Refusals.{bad-is}
+use Rattle.tainhosa.specs.Headers.{Given, given, readAnswer, checkAnswer, Wrote, wrote, writeAnswer}
+use Rattle.tainhosa.specs.Walking.{Walked, tagAnswer}
+use Rattle.tainhosa.specs.Loading.{Loaded, poweredUp, powerUpAnswer, obeyed, commandAnswer}
 
 -- a refusal is the same whatever an accepted one would give
 header-refusal : (o : HeaderOutcome) (v : Header) → headerRefusal o ≡ refusalOf (header.answerOf o v)
@@ -43,10 +46,6 @@ header-refusal (WrongLength p) v = refl
 header-refusal (Repeated p) v = refl
 header-refusal (NoEnd p) v = refl
 header-refusal (Missing t) v = refl
-
-pub bad-is : (A : Type 0) (x : Answer (Unit {0})) → refusalOf x ≡ refusalOf (image.badHeader {A = A} x)
-bad-is A (gives t) = refl
-bad-is A (refused n p) = refl
 
 image-refusal : (o : ImageOutcome) (v : Header) → imageRefusal o ≡ refusalOf (image.answerOf o v)
 image-refusal Good v = refl
@@ -92,14 +91,6 @@ walked-on s p row row′ a x next h e en er ex =
     (ap₂ walk (ex ∙ ap (λ (i : Answer Item). refusalOf i .number) e) (er ∙ ap₂ rowOf e en))
 
 -- ---- power-up, arm and confirm
-
--- a bad image's own number and place
-own-is : (a : Answer (Unit {0})) → refusalOf a ≡ refusedAt (own a .number) (own a .place)
-own-is (gives t) = refl
-own-is (refused n p) = refl
-
-pub own-refusal : (o : ImageOutcome) → imageRefusal o ≡ refusedAt (ownOf o .number) (ownOf o .place)
-own-refusal o = own-is (image.answerOf o tt)
 
 module _ (f f′ : Flash) (row row′ : List ℕ) where
   pub powered-up : (n s budget : ℕ) (r : PowerUpAnswer) (e : Ended) (why : Refused) → length row ≡ 6

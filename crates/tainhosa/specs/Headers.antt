@@ -1,7 +1,7 @@
 -- What a C caller of `tainhosa_read_header`, `tainhosa_check_image` and `tainhosa_write_header` gets.
 use Prim.Native.Nat.{ℕ}
 use mathlib.Core.Bool.{Bool, cond, _&&_}
-use mathlib.Core.List.{List, [], _∷_, _++_}
+use mathlib.Core.List.{List}
 use lib.Dec.{eqb}
 use lib.ListN.{length}
 use Rattle.refusals.specs.Answer.{Answer}
@@ -9,15 +9,8 @@ use Rattle.header.specs.declared.Header.{Header}
 use Rattle.header.specs.Reading.{part, readHeader, valuesOf}
 use Rattle.header_writer.specs.Writing.{Write, writeHeader}
 use Rattle.image.specs.Check.{checkImage}
-use Rattle.tainhosa.specs.Numbers.{refusalOf, bitOf}
-
--- A header's values: the numbers, behind the place of a refusal, and the bytes.
-abbrev pub numbersOf : ℕ → Header → List ℕ
-numbersOf place v =
-    place ∷ v .size ∷ v .version ∷ v .timestamp ∷ v .«auth_type» ∷ bitOf (v .«has_hint») ∷ []
-
-abbrev pub bytesOf : Header → List ℕ
-bytesOf v = v .digest ++ (v .signature ++ v .hint)
+use Rattle.c_answers.specs.Numbers.{refusalOf}
+use Rattle.c_answers.specs.Rows.{numbersOf, bytesOf}
 
 -- The answer, and the caller's two buffers as the call returns.
 pub record Given : Type 0 where

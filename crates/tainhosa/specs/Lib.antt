@@ -1,5 +1,4 @@
 -- What a C caller gets.
-pub mod Numbers
 pub mod Digest
 pub mod Headers
 pub mod Walking

@@ -1,8 +1,5 @@
 // The C interface of the library. A C caller passes a slice as a pointer and a length. Every answer is 0 or a refusal's number;
 // a buffer of another length than documented is refusal 1, and nothing changes.
-mod numbers;
-mod rows;
-
 use header::Header;
 ghost use mathlib.Core.Path.{_≡_};
 ghost use Rattle.flash.specs.Buffers.{flash};
@@ -37,7 +34,7 @@ pub extern "C" fn tainhosa_sha256(message: &[u8], digest: &mut [u8]) -> u32
         return WRONG_LENGTH;
     }
     let d = sha256::digest(message);
-    rows::put_bytes(digest, &d);
+    c_answers::put_bytes(digest, &d);
     0
 }
 
@@ -54,9 +51,9 @@ pub extern "C" fn tainhosa_read_header(input: &[u8], numbers: &mut [u64], bytes:
     }
     let read = header::read_header(input);
     let outcome = read.outcome;
-    let refused = numbers::of_header(outcome);
+    let refused = c_answers::of_header(outcome);
     let h = read.header;
-    rows::put_header(numbers, bytes, refused.place, h);
+    c_answers::put_header(numbers, bytes, refused.place, h);
     refused.number
 }
 
@@ -79,9 +76,9 @@ pub extern "C" fn tainhosa_check_image(
     }
     let checked = image::check_image(sectors, size, partition);
     let outcome = checked.outcome;
-    let refused = numbers::of_image(outcome);
+    let refused = c_answers::of_image(outcome);
     let h = checked.header;
-    rows::put_header(numbers, bytes, refused.place, h);
+    c_answers::put_header(numbers, bytes, refused.place, h);
     refused.number
 }
 
@@ -101,9 +98,9 @@ pub extern "C" fn tainhosa_write_header(
     if bytes.len() != HEADER_BYTES {
         return WRONG_LENGTH;
     }
-    let digest = rows::take_32(bytes, 0);
-    let signature = rows::take_64(bytes, 32);
-    let hint = rows::take_32(bytes, 96);
+    let digest = header::copy_32(bytes, 0);
+    let signature = header::copy_64(bytes, 32);
+    let hint = header::copy_32(bytes, 96);
     let v = Header {
         size,
         version,
@@ -115,7 +112,7 @@ pub extern "C" fn tainhosa_write_header(
         hint,
     };
     let outcome = header_writer::write_header(out, v);
-    numbers::of_write(outcome)
+    c_answers::of_write(outcome)
 }
 
 // The tag from a place of a header on, and the place to go on from.
@@ -128,9 +125,9 @@ pub extern "C" fn tainhosa_next_tag(input: &[u8], at: usize, tag: &mut [u64]) ->
     }
     let t = tags::walk_at(input, at);
     let next = tags::next_place(input, at);
-    let row = numbers::tag_row(t, next as u64);
-    rows::put_numbers(tag, &row);
-    numbers::of_tag(t)
+    let row = c_answers::tag_row(t, next as u64);
+    c_answers::put_numbers(tag, &row);
+    c_answers::of_tag(t)
 }
 
 // A power-up with at most `budget` operations.
@@ -152,8 +149,8 @@ pub extern "C" fn tainhosa_power_up(
     let a = loader::power_up(sectors, size, boot, update, swap, budget);
     let outcome = a.outcome;
     let reason = a.reason;
-    let ended = numbers::of_outcome(outcome);
-    let why = numbers::of_reason(reason);
+    let ended = c_answers::of_outcome(outcome);
+    let why = c_answers::of_reason(reason);
     let row = [
         ended.outcome,
         a.count,
@@ -162,7 +159,7 @@ pub extern "C" fn tainhosa_power_up(
         why.number as u64,
         why.place,
     ];
-    rows::put_numbers(answer, &row);
+    c_answers::put_numbers(answer, &row);
     ended.number
 }
 
@@ -182,9 +179,9 @@ pub extern "C" fn tainhosa_arm(
         return WRONG_LENGTH;
     }
     let a = loader::arm(sectors, size, boot, update, swap);
-    let row = [numbers::count_of(a)];
-    rows::put_numbers(count, &row);
-    numbers::of_command(a)
+    let row = [c_answers::count_of(a)];
+    c_answers::put_numbers(count, &row);
+    c_answers::of_command(a)
 }
 
 // Keeps the image that runs on test.
@@ -203,7 +200,7 @@ pub extern "C" fn tainhosa_confirm(
         return WRONG_LENGTH;
     }
     let a = loader::confirm(sectors, size, boot, update, swap);
-    let row = [numbers::count_of(a)];
-    rows::put_numbers(count, &row);
-    numbers::of_command(a)
+    let row = [c_answers::count_of(a)];
+    c_answers::put_numbers(count, &row);
+    c_answers::of_command(a)
 }

@@ -2,7 +2,7 @@ use mathlib.Core.Path.{_∙_}
 use Rattle.flash.specs.Buffers.{flash}
 use Rattle.flash.proofs.Checked.{boot-partition, update-partition}
 use Rattle.flash.proofs.Answers.{flash-given}
-use Rattle.loader.specs.Parts.{permitOf}
+use Rattle.decision.specs.Parts.{permitOf}
 use Rattle.loader.proofs.Calls.{arm-inside, arm-outside}
 use borrow.Author.Needs.{needs}
 use Rattle.loader.proofs.arm.Statement.{statement}

@@ -1,5 +1,5 @@
 use mathlib.Core.Path.{ap, _∙_}
-use Rattle.flash.specs.declared.UpdateStatus.the-variants.{Updating}
+use Rattle.trailer.specs.declared.UpdateStatus.the-variants.{Updating}
 use Rattle.exchange.specs.declared.Operation.the-variants.{WriteUpdateStatus}
 use Rattle.exchange.specs.Operations.{perform}
 use Rattle.loader.specs.declared.CommandAnswer.the-variants.{Done}

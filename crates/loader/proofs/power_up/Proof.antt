@@ -2,9 +2,10 @@ use mathlib.Core.Path.{ap, _∙_}
 use Rattle.flash.specs.Buffers.{flash}
 use Rattle.flash.proofs.Checked.{boot-partition, update-partition}
 use Rattle.flash.proofs.Answers.{flash-given}
+use Rattle.decision.specs.Numbers.{checkOf}
+use Rattle.decision.specs.Parts.{planOf}
 use Rattle.loader.specs.declared.PowerUpAnswer.{PowerUpAnswer}
-use Rattle.loader.specs.Loader.{checkOf, answered}
-use Rattle.loader.specs.Parts.{planOf}
+use Rattle.loader.specs.Loader.{answered}
 use Rattle.loader.proofs.Calls.{power-up-inside, power-up-outside}
 use borrow.Author.Needs.{needs}
 use Rattle.loader.proofs.power_up.Statement.{statement}

@@ -4,8 +4,8 @@ use mathlib.Core.Path.{_≡_, refl}
 use native.Mathlib.Omega.{arith}
 use Prim.Native.Nat.{ℕ, _≤_, _-_, _*_, _/_, _%_, _^_}
 use lib.ListN.{length, take, length-set}
-use Rattle.sha256.specs.Fips.{_!_, first, bigEndian, bytes}
-use Rattle.sha256.proofs.First.{first-more, first-all}
+use Rattle.fips180.specs.Sha256.{_!_, first, bigEndian, bytes}
+use Rattle.fips180.proofs.First.{first-more, first-all}
 use Rattle.sha256.proofs.bytes.Statement.{statement}
 use Rattle.sha256.proofs.bytes.Tie as tie
 

@@ -19,7 +19,7 @@ returns-2 c =
     let c8 = c7 .before in
     let c11 = c8 .before .before .before in
     let a = c11 .args in
-    written (a .out .now) (a .bytes .now) _ _ (c .of-write .result) (c8 .if1 .left) (rw (c7 .take-32 .ensures, c6 .take-64 .ensures, c5 .take-322 .ensures) at (c3 .write-header .ensures)) (c .of-write .ensures)
+    written (a .out .now) (a .bytes .now) _ _ (c .of-write .result) (c8 .if1 .left) (rw (c7 .copy-32 .ensures, c6 .copy-64 .ensures, c5 .copy-322 .ensures) at (c3 .write-header .ensures)) (c .of-write .ensures)
 
 pub tainhosa-write-header-spec : {M : Type 1} → statement M
 tainhosa-write-header-spec =

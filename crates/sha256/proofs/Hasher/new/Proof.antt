@@ -1,6 +1,6 @@
 use mathlib.Core.Path.{refl}
 use Rattle.sha256.specs.Parts.{stateOf, settle}
-use Rattle.sha256.specs.Fips.{hash, H0}
+use Rattle.fips180.specs.Sha256.{hash, H0}
 use Rattle.sha256.proofs.Hasher.new.Statement.{statement}
 use Rattle.sha256.proofs.Hasher.new.Tie as tie
 

@@ -1,0 +1,3 @@
+-- Laws of the numbers and rows.
+pub mod Filled
+pub mod Refusals

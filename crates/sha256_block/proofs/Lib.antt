@@ -1,0 +1,2 @@
+-- One turn of each loop.
+mod Steps

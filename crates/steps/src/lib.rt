@@ -1,0 +1,170 @@
+// The single step: the operation that document 01 orders next, found by reading the bytes, and done.
+mod order;
+
+use exchange::Area;
+use exchange::Job;
+use exchange::Next;
+use exchange::Operation;
+use flash::Geometry;
+use flash::SectorNumber;
+use trailer::BootStatus;
+use trailer::BootStatusAnswer;
+use trailer::Leg;
+use trailer::UpdateStatus;
+use trailer::UpdateStatusAnswer;
+ghost use mathlib.Core.Path.{_≡_};
+ghost use Prim.Native.Nat.{_<_};
+ghost use Rattle.flash.specs.Sectors.{Partition, erased};
+ghost use Rattle.flash.specs.Buffers.{flash, Shaped};
+ghost use Rattle.trailer.specs.StatusBytes.{bootStatusAt, updateStatusAt};
+ghost use Rattle.trailer.specs.SectorFlags.{flagsAt};
+ghost use Rattle.exchange.specs.Operations.{source, target, get, put, perform};
+ghost use Rattle.exchange.specs.Order.{orderedBy, step, run};
+ghost use Rattle.steps.specs.Parts.{statusesOf, bothStatuses, Within, stepped, ran};
+
+// BOOT's and UPDATE's status, where both bytes are allowed.
+pub enum Statuses {
+    Allowed(BootStatus, UpdateStatus),
+    NotAllowed,
+}
+
+// BOOT is looked at first.
+pub fn read_statuses(g: Geometry, boot: &[u8], update: &[u8]) -> Statuses
+    requires { ⌜ (Partition g (now boot)) × (Partition g (now update)) ⌝ }
+    ensures { λ r. ⌜ statusesOf r ≡ bothStatuses (bootStatusAt g (now (boot .entry))) (updateStatusAt g (now (update .entry))) ⌝ }
+{
+    match trailer::read_boot_status(g, boot) {
+        BootStatusAnswer::Boot(b) => match trailer::read_update_status(g, update) {
+            UpdateStatusAnswer::Update(u) => Statuses::Allowed(b, u),
+            UpdateStatusAnswer::NotAllowed => Statuses::NotAllowed,
+        },
+        BootStatusAnswer::NotAllowed => Statuses::NotAllowed,
+    }
+}
+
+// Erases sector i of an area. SWAP is one sector, whatever i.
+fn erase_in(
+    g: Geometry,
+    area: Area,
+    i: SectorNumber,
+    boot: &mut [u8],
+    update: &mut [u8],
+    swap: &mut [u8],
+)
+    requires { ⌜ (Shaped g (flash (now boot) (now update) (now swap))) × (i .0 < g .sectors) ⌝ }
+    ensures { λ _. ⌜ flash (now (boot .exit)) (now (update .exit)) (now (swap .exit)) ≡ put g area (i .0) (erased (g .size)) (flash (now (boot .entry)) (now (update .entry)) (now (swap .entry))) ⌝ }
+{
+    match area {
+        Area::Boot => flash::erase_sector(g, boot, i),
+        Area::Update => flash::erase_sector(g, update, i),
+        Area::Swap => flash::erase(swap),
+    }
+}
+
+// Copies sector i from where to where the leg says.
+fn copy_for(
+    g: Geometry,
+    leg: Leg,
+    i: SectorNumber,
+    boot: &mut [u8],
+    update: &mut [u8],
+    swap: &mut [u8],
+)
+    requires { ⌜ (Shaped g (flash (now boot) (now update) (now swap))) × (i .0 < g .sectors) ⌝ }
+    ensures { λ _. ⌜ flash (now (boot .exit)) (now (update .exit)) (now (swap .exit)) ≡ put g (target leg) (i .0) (get g (source leg) (i .0) (flash (now (boot .entry)) (now (update .entry)) (now (swap .entry)))) (flash (now (boot .entry)) (now (update .entry)) (now (swap .entry))) ⌝ }
+{
+    match leg {
+        Leg::UpdateToSwap => flash::copy_to_swap(g, swap, update, i),
+        Leg::BootToUpdate => flash::copy_sector(g, update, boot, i),
+        Leg::SwapToBoot => flash::copy_from_swap(g, boot, swap, i),
+    }
+}
+
+// One operation.
+pub fn perform(g: Geometry, op: Operation, boot: &mut [u8], update: &mut [u8], swap: &mut [u8])
+    requires { ⌜ (Shaped g (flash (now boot) (now update) (now swap))) × (Within g op) ⌝ }
+    ensures { λ _. ⌜ flash (now (boot .exit)) (now (update .exit)) (now (swap .exit)) ≡ perform g op (flash (now (boot .entry)) (now (update .entry)) (now (swap .entry))) ⌝ }
+{
+    match op {
+        Operation::Erase(area, i) => erase_in(g, area, i, boot, update, swap),
+        Operation::Copy(leg, i) => copy_for(g, leg, i, boot, update, swap),
+        Operation::WriteFlag(i, flag) => trailer::write_flag(g, update, i, flag),
+        Operation::EraseBootTrailer => {
+            flash::erase_sector(g, boot, SectorNumber(g.firmware_sectors()))
+        }
+        Operation::EraseUpdateTrailer => {
+            flash::erase_sector(g, update, SectorNumber(g.firmware_sectors()))
+        }
+        Operation::WriteBootStatus(s) => trailer::write_boot_status(g, boot, s),
+        Operation::WriteUpdateStatus(s) => trailer::write_update_status(g, update, s),
+    }
+}
+
+// The operation that is next, by the bytes and the place within a leg.
+pub fn find_next(g: Geometry, job: Job, place: u8, boot: &[u8], update: &[u8]) -> Next
+    requires { ⌜ (Partition g (now boot)) × (Partition g (now update)) ⌝ }
+    ensures { λ r. ⌜ r ≡ orderedBy job place (bootStatusAt g (now (boot .entry))) (updateStatusAt g (now (update .entry))) (flagsAt g (now (update .entry))) ⌝ }
+{
+    match read_statuses(g, boot, update) {
+        Statuses::Allowed(b, u) => {
+            order::next_operation(job, place, b, u, trailer::read_flags(g, update))
+        }
+        Statuses::NotAllowed => Next::Nothing,
+    }
+}
+
+// The single operation that is next, done. Power-up changes the flash by this function alone.
+fn step(
+    g: Geometry,
+    job: Job,
+    place: u8,
+    boot: &mut [u8],
+    update: &mut [u8],
+    swap: &mut [u8],
+) -> Next
+    requires { ⌜ Shaped g (flash (now boot) (now update) (now swap)) ⌝ }
+    ensures { λ r. ⌜ stepped r (flash (now (boot .exit)) (now (update .exit)) (now (swap .exit))) ≡ step job g place (flash (now (boot .entry)) (now (update .entry)) (now (swap .entry))) ⌝ }
+{
+    let next = find_next(g, job, place, boot, update);
+    match next {
+        Next::Do(op) => {
+            perform(g, op, boot, update, swap);
+            next
+        }
+        Next::Nothing => next,
+    }
+}
+
+// Where a run of steps stands.
+pub struct Ran {
+    pub place: u8,
+    pub count: u64,
+}
+
+// Steps, until nothing is next or the budget is used up.
+pub fn run(
+    g: Geometry,
+    job: Job,
+    boot: &mut [u8],
+    update: &mut [u8],
+    swap: &mut [u8],
+    budget: u64,
+) -> Ran
+    requires { ⌜ Shaped g (flash (now boot) (now update) (now swap)) ⌝ }
+    ensures { λ r. ⌜ ran r (flash (now (boot .exit)) (now (update .exit)) (now (swap .exit))) ≡ run job g budget 0 (flash (now (boot .entry)) (now (update .entry)) (now (swap .entry))) ⌝ }
+{
+    let mut place: u8 = 0;
+    let mut count: u64 = 0;
+    while count < budget {
+        match step(g, job, place, boot, update, swap) {
+            Next::Do(op) => {
+                place = order::place_after(op);
+                count += 1;
+            }
+            Next::Nothing => {
+                return Ran { place, count };
+            }
+        }
+    }
+    Ran { place, count }
+}
