@@ -2,8 +2,8 @@
 use Prim.Native.Nat.{ℕ}
 use mathlib.Core.Bool.{Bool, true, false}
 use Rattle.refusals.specs.Answer.{Answer, gives, refused}
-use Rattle.header.specs.declared.HeaderOutcome.{HeaderOutcome}
-use Rattle.header.specs.Reading as header
+use Rattle.places.specs.declared.HeaderOutcome.{HeaderOutcome}
+use Rattle.places.specs.Judging as header
 use Rattle.image.specs.declared.ImageOutcome.{ImageOutcome}
 use Rattle.image.specs.Check as image
 use Rattle.exchange.specs.Decision as decision

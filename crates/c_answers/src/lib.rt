@@ -1,21 +1,22 @@
 // The numbers by which a C caller gets each answer of the library, and the rows that hold them.
-use decision::CommandRefusal;
+use commands::CommandAnswer;
+use commands::CommandRefusal;
 use decision::Reason;
 use decision::Refusal;
 use header::Header;
-use header::HeaderOutcome;
 use header_writer::WriteOutcome;
 use image::ImageOutcome;
-use loader::CommandAnswer;
 use loader::Outcome;
 use output::put;
+use places::HeaderOutcome;
 use tags::Tag;
 ghost use mathlib.Core.Path.{_≡_};
 ghost use mathlib.Core.List.{_++_};
 ghost use lib.ListN.{length};
 ghost use Rattle.header_writer.specs.Writing as writer;
 ghost use Rattle.decision.specs.Numbers.{reasonOf};
-ghost use Rattle.loader.specs.Loader.{outcomeOf, commandOf};
+ghost use Rattle.commands.specs.Numbers.{commandOf};
+ghost use Rattle.loader.specs.Loader.{outcomeOf};
 ghost use Rattle.tags.specs.Walk.{itemOf};
 ghost use Rattle.c_answers.specs.Numbers.{refusedAt, refusalOf, headerRefusal, imageRefusal, bitOf, ended, endedOf, reasonRefusal, countOf};
 ghost use Rattle.c_answers.specs.Rows.{numbersOf, bytesOf, rowOf};

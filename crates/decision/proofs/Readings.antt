@@ -3,27 +3,23 @@ use mathlib.Core.Path.{_≡_, refl, ap, _∙_}
 use mathlib.Core.List.{List}
 use Prim.Native.Nat.{ℕ}
 use Rattle.refusals.specs.Answer.{Answer, gives, refused, then}
+use Rattle.places.specs.declared.HeaderOutcome.{HeaderOutcome}
+use Rattle.places.specs.Judging as header
 use Rattle.header.specs.declared.Header.{Header}
-use Rattle.header.specs.declared.HeaderOutcome.{HeaderOutcome}
-use Rattle.header.specs.Reading as header
 use Rattle.flash.specs.declared.Geometry.{Geometry}
 use Rattle.flash.specs.Sectors.{firmwareOf}
-use Rattle.trailer.specs.declared.BootStatus.{BootStatus}
-use Rattle.trailer.specs.declared.BootStatus.the-variants.{New as BootNew, Testing, Success}
-use Rattle.trailer.specs.declared.UpdateStatus.{UpdateStatus}
-use Rattle.trailer.specs.declared.UpdateStatus.the-variants.{Updating}
+use Rattle.status.specs.declared.BootStatus.{BootStatus}
+use Rattle.status.specs.declared.UpdateStatus.{UpdateStatus}
+use Rattle.status.specs.declared.Statuses.{Statuses}
+use Rattle.status.specs.declared.Statuses.the-variants.{Allowed, NotAllowed}
 use Rattle.trailer.specs.declared.Flags.{Flags}
-use Rattle.trailer.specs.StatusBytes.{bootStatusAt, updateStatusAt}
+use Rattle.status.specs.StatusBytes.{bootStatusAt, updateStatusAt, statusesOf, bothStatuses}
+use Rattle.status.proofs.Both.{statuses-read}
 use Rattle.image.specs.declared.ImageAnswer.{ImageAnswer}
 use Rattle.image.specs.declared.ImageOutcome.{ImageOutcome}
 use Rattle.image.specs.declared.ImageOutcome.the-variants.{Good as GoodImage, OutsideRules, BadHeader, TooLarge, WrongDigest}
 use Rattle.image.specs.Check.{badHeader, answerOf, imageIn, Checks}
 use Rattle.exchange.specs.Decision.{Plan, refuse, decideBy, decideStatuses}
-use Rattle.exchange.specs.Commands.{withStatuses, mayArm, mayConfirm}
-use Rattle.steps.specs.declared.Statuses.{Statuses}
-use Rattle.steps.specs.declared.Statuses.the-variants.{Allowed, NotAllowed}
-use Rattle.steps.specs.Parts.{statusesOf, bothStatuses}
-use Rattle.steps.proofs.Orders.{statuses-read}
 use Rattle.decision.specs.declared.Verdict.the-variants.{Bad}
 use Rattle.decision.specs.Numbers.{checkOf, own}
 use Rattle.decision.specs.Parts.{verdictOf}
@@ -76,15 +72,6 @@ decide-both (gives x) (gives y) flags u b = refl
 decide-both (gives x) (refused n q) flags u b = refl
 decide-both (refused n q) U flags u b = refl
 
-abbrev permitting : (BootStatus → UpdateStatus → Answer (Unit {0})) → Answer (BootStatus × UpdateStatus) → Answer (Unit {0})
-permitting rest (gives s) = rest (s .0) (s .1)
-permitting rest (refused n q) = refused n q
-
-permit-both : (B : Answer BootStatus) (U : Answer UpdateStatus) (rest : BootStatus → UpdateStatus → Answer (Unit {0})) → withStatuses B U rest ≡ permitting rest (bothStatuses B U)
-permit-both (gives b) (gives u) rest = refl
-permit-both (gives b) (refused n q) rest = refl
-permit-both (refused n q) U rest = refl
-
 -- the rules, by what the code read
 module _ (g : Geometry) (l k : List ℕ) (s : Statuses) (e : statusesOf s ≡ bothStatuses (bootStatusAt g l) (updateStatusAt g k)) where
   pub decide-allowed : (flags : Flags) (x y : Answer ℕ) (b : BootStatus) (u : UpdateStatus) → s ≡ Allowed b u
@@ -95,23 +82,3 @@ module _ (g : Geometry) (l k : List ℕ) (s : Statuses) (e : statusesOf s ≡ bo
   pub decide-not : (flags : Flags) (x y : Answer ℕ) → s ≡ NotAllowed → decideStatuses (bootStatusAt g l) (updateStatusAt g k) flags x y ≡ refuse 10 0 0
   decide-not flags x y q =
       decide-both (bootStatusAt g l) (updateStatusAt g k) flags x y ∙ ap (deciding flags x y) (statuses-read g l k s e NotAllowed q)
-
-  pub permit-allowed : (rest : BootStatus → UpdateStatus → Answer (Unit {0})) (b : BootStatus) (u : UpdateStatus) → s ≡ Allowed b u
-      → withStatuses (bootStatusAt g l) (updateStatusAt g k) rest ≡ rest b u
-  permit-allowed rest b u q =
-      permit-both (bootStatusAt g l) (updateStatusAt g k) rest ∙ ap (permitting rest) (statuses-read g l k s e (Allowed b u) q)
-
-  pub permit-not : (rest : BootStatus → UpdateStatus → Answer (Unit {0})) → s ≡ NotAllowed
-      → withStatuses (bootStatusAt g l) (updateStatusAt g k) rest ≡ refused 10 0
-  permit-not rest q = permit-both (bootStatusAt g l) (updateStatusAt g k) rest ∙ ap (permitting rest) (statuses-read g l k s e NotAllowed q)
-
--- an update that is armed is the wrong time for both commands
-pub arm-updating : (b : BootStatus) → mayArm b Updating ≡ refused 14 0
-arm-updating BootNew = refl
-arm-updating Testing = refl
-arm-updating Success = refl
-
-pub confirm-updating : (flags : Flags) (b : BootStatus) → mayConfirm flags b Updating ≡ refused 14 0
-confirm-updating flags BootNew = refl
-confirm-updating flags Testing = refl
-confirm-updating flags Success = refl

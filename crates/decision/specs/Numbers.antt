@@ -10,8 +10,6 @@ use Rattle.decision.specs.declared.Refusal.{Refusal}
 use Rattle.decision.specs.declared.Refusal.the-variants.{OutsideRules, StatusNotAllowed, FlagsMalformed, BadBoot, NoFallback}
 use Rattle.decision.specs.declared.Reason.{Reason}
 use Rattle.decision.specs.declared.Reason.the-variants.{None, BadUpdate, NotNewer}
-use Rattle.decision.specs.declared.CommandRefusal.{CommandRefusal}
-use Rattle.decision.specs.declared.CommandRefusal.the-variants.{OutsideRules as CommandOutside, StatusNotAllowed as CommandStatus, FlagsMalformed as CommandFlags, WrongTime}
 
 -- "Image check", as power-up uses it: the version of the image in the firmware sectors, or its refusal. The trailer sector has no say.
 unfoldable pub checkOf : Check
@@ -54,10 +52,3 @@ abbrev pub reasonOf : Reason → decision.Reason
 reasonOf None = noReason
 reasonOf (BadUpdate o) = because (ownOf o .number) (ownOf o .place)
 reasonOf NotNewer = because 15 0
-
--- "Numbers given back", of arm and confirm.
-abbrev pub commandNumber : CommandRefusal → ℕ
-commandNumber CommandOutside = 1
-commandNumber CommandStatus = 10
-commandNumber CommandFlags = 11
-commandNumber WrongTime = 14

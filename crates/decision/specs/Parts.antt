@@ -7,9 +7,7 @@ use Rattle.decision.specs.declared.Verdict.{Verdict}
 use Rattle.decision.specs.declared.Verdict.the-variants.{Good, Bad}
 use Rattle.decision.specs.declared.Plan.{Plan}
 use Rattle.decision.specs.declared.Plan.the-variants.{Refuse, Plain, Work}
-use Rattle.decision.specs.declared.Permit.{Permit}
-use Rattle.decision.specs.declared.Permit.the-variants.{Granted, Denied}
-use Rattle.decision.specs.Numbers.{ownOf, numbersOf, reasonOf, commandNumber}
+use Rattle.decision.specs.Numbers.{ownOf, numbersOf, reasonOf}
 
 -- an image's version, or its refusal
 abbrev pub verdictOf : Verdict → Answer ℕ
@@ -21,7 +19,3 @@ abbrev pub planOf : Plan → decision.Plan
 planOf (Refuse r) = refuse (numbersOf r .number) (numbersOf r .inner) (numbersOf r .place)
 planOf Plain = plain
 planOf (Work job reason) = work job (reasonOf reason)
-
-abbrev pub permitOf : Permit → Answer (Unit {0})
-permitOf Granted = gives tt
-permitOf (Denied r) = refused (commandNumber r) 0

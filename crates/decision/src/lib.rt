@@ -1,20 +1,19 @@
-// The checks before the work, and what they decide.
+// The checks before a power-up's work, and what they decide.
 use exchange::Job;
 use flash::Geometry;
 use image::ImageOutcome;
-use steps::Statuses;
-use trailer::BootStatus;
+use status::BootStatus;
+use status::Statuses;
+use status::UpdateStatus;
 use trailer::Flags;
-use trailer::UpdateStatus;
 ghost use mathlib.Core.Path.{_≡_};
 ghost use Rattle.flash.specs.Sectors.{Partition};
-ghost use Rattle.trailer.specs.StatusBytes.{bootStatusAt, updateStatusAt};
+ghost use Rattle.status.specs.StatusBytes.{bootStatusAt, updateStatusAt};
 ghost use Rattle.trailer.specs.SectorFlags.{flagsAt};
 ghost use Rattle.image.specs.Check.{answerOf};
 ghost use Rattle.exchange.specs.Decision.{accept, acceptFallback, decideUpdate, decideFallback, decideClosing, decideBy, decideStatuses};
-ghost use Rattle.exchange.specs.Commands.{withStatuses, mayArm, confirmFlags, mayConfirm};
 ghost use Rattle.decision.specs.Numbers.{checkOf};
-ghost use Rattle.decision.specs.Parts.{verdictOf, planOf, permitOf};
+ghost use Rattle.decision.specs.Parts.{verdictOf, planOf};
 
 // Why a power-up is refused.
 pub enum Refusal {
@@ -35,14 +34,6 @@ pub enum Reason {
     None,
     BadUpdate(ImageOutcome),
     NotNewer,
-}
-
-// Why arm or confirm is refused.
-pub enum CommandRefusal {
-    OutsideRules,
-    StatusNotAllowed,
-    FlagsMalformed,
-    WrongTime,
 }
 
 // ---- the image check
@@ -71,7 +62,7 @@ pub fn check_image(g: Geometry, partition: &[u8]) -> Verdict
     requires { ⌜ Partition g (now partition) ⌝ }
     ensures { λ r. ⌜ verdictOf r ≡ checkOf g (now (partition .entry)) ⌝ }
 {
-    let checked = image::check_firmware(flash::firmware_part(g, partition));
+    let checked = image::check_firmware(sectors::firmware_part(g, partition));
     let outcome = checked.outcome;
     let header = checked.header;
     verdict_on(outcome, header.version)
@@ -179,78 +170,8 @@ pub fn decide(g: Geometry, boot: &[u8], update: &[u8]) -> Plan
     requires { ⌜ (Partition g (now boot)) × (Partition g (now update)) ⌝ }
     ensures { λ r. ⌜ planOf r ≡ decideStatuses (bootStatusAt g (now (boot .entry))) (updateStatusAt g (now (update .entry))) (flagsAt g (now (update .entry))) (checkOf g (now (update .entry))) (checkOf g (now (boot .entry))) ⌝ }
 {
-    match steps::read_statuses(g, boot, update) {
+    match status::read_statuses(g, boot, update) {
         Statuses::Allowed(b, u) => decide_by(g, b, u, boot, update),
         Statuses::NotAllowed => Plan::Refuse(Refusal::StatusNotAllowed),
-    }
-}
-
-// ---- arm and confirm
-
-// Whether a command may do its operations.
-pub enum Permit {
-    Granted,
-    Denied(CommandRefusal),
-}
-
-// Arm: UPDATE has to be NEW, and BOOT NEW or SUCCESS.
-fn permit_arm(b: BootStatus, u: UpdateStatus) -> Permit
-    ensures { λ r. ⌜ permitOf r ≡ mayArm b u ⌝ }
-{
-    match u {
-        UpdateStatus::New => match b {
-            BootStatus::Testing => Permit::Denied(CommandRefusal::WrongTime),
-            BootStatus::New => Permit::Granted,
-            BootStatus::Success => Permit::Granted,
-        },
-        UpdateStatus::Updating => Permit::Denied(CommandRefusal::WrongTime),
-    }
-}
-
-pub fn decide_arm(g: Geometry, boot: &[u8], update: &[u8]) -> Permit
-    requires { ⌜ (Partition g (now boot)) × (Partition g (now update)) ⌝ }
-    ensures { λ r. ⌜ permitOf r ≡ withStatuses (bootStatusAt g (now (boot .entry))) (updateStatusAt g (now (update .entry))) mayArm ⌝ }
-{
-    match steps::read_statuses(g, boot, update) {
-        Statuses::Allowed(b, u) => permit_arm(b, u),
-        Statuses::NotAllowed => Permit::Denied(CommandRefusal::StatusNotAllowed),
-    }
-}
-
-// Confirm: all flags have to be F.
-fn permit_flags(g: Geometry, update: &[u8]) -> Permit
-    requires { ⌜ Partition g (now update) ⌝ }
-    ensures { λ r. ⌜ permitOf r ≡ confirmFlags (flagsAt g (now (update .entry))) ⌝ }
-{
-    match trailer::read_flags(g, update) {
-        Flags::Malformed => Permit::Denied(CommandRefusal::FlagsMalformed),
-        Flags::AllF => Permit::Granted,
-        Flags::At(_, _) => Permit::Denied(CommandRefusal::WrongTime),
-        Flags::All0 => Permit::Denied(CommandRefusal::WrongTime),
-    }
-}
-
-// Confirm: BOOT has to be TESTING, and UPDATE NEW.
-fn permit_confirm(g: Geometry, b: BootStatus, u: UpdateStatus, update: &[u8]) -> Permit
-    requires { ⌜ Partition g (now update) ⌝ }
-    ensures { λ r. ⌜ permitOf r ≡ mayConfirm (flagsAt g (now (update .entry))) b u ⌝ }
-{
-    match u {
-        UpdateStatus::New => match b {
-            BootStatus::Testing => permit_flags(g, update),
-            BootStatus::New => Permit::Denied(CommandRefusal::WrongTime),
-            BootStatus::Success => Permit::Denied(CommandRefusal::WrongTime),
-        },
-        UpdateStatus::Updating => Permit::Denied(CommandRefusal::WrongTime),
-    }
-}
-
-pub fn decide_confirm(g: Geometry, boot: &[u8], update: &[u8]) -> Permit
-    requires { ⌜ (Partition g (now boot)) × (Partition g (now update)) ⌝ }
-    ensures { λ r. ⌜ permitOf r ≡ withStatuses (bootStatusAt g (now (boot .entry))) (updateStatusAt g (now (update .entry))) (mayConfirm (flagsAt g (now (update .entry)))) ⌝ }
-{
-    match steps::read_statuses(g, boot, update) {
-        Statuses::Allowed(b, u) => permit_confirm(g, b, u, update),
-        Statuses::NotAllowed => Permit::Denied(CommandRefusal::StatusNotAllowed),
     }
 }

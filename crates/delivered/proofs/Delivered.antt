@@ -6,9 +6,9 @@ use Rattle.exchange.specs.Cases.{exchangeCases, three, Every}
 use Rattle.exchange.proofs.Whole.{demand-3}
 use Rattle.exchange.proofs.Cases.{marked-exchange}
 use Rattle.exchange.proofs.Every.{every-map, every-append}
-use Rattle.header_writer.specs.Cases.{HeaderCase, headerCases, AllHold}
-use Rattle.header_writer.specs.Cases as header
-use Rattle.header_writer.proofs.Marked.{header-cases}
+use Rattle.round_trips.specs.Cases.{HeaderCase, headerCases, AllHold}
+use Rattle.round_trips.specs.Cases as header
+use Rattle.round_trips.proofs.Marked.{header-cases}
 use Rattle.decision.specs.Numbers.{checkOf}
 use Rattle.decision.proofs.Readings.{check-reads-firmware}
 use Rattle.delivered.specs.Demand.{Demand3}

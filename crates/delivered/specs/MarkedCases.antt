@@ -2,8 +2,8 @@
 use mathlib.Core.List.{List, _++_, map}
 use Rattle.exchange.specs.Cases as exchange
 use Rattle.exchange.specs.Cases.{ExchangeCase, exchangeCases, Every}
-use Rattle.header_writer.specs.Cases as header
-use Rattle.header_writer.specs.Cases.{HeaderCase, headerCases}
+use Rattle.round_trips.specs.Cases as header
+use Rattle.round_trips.specs.Cases.{HeaderCase, headerCases}
 use Rattle.decision.specs.Numbers.{checkOf}
 
 -- Lines 1 to 6 speak of exchanges, lines 7 to 9 of headers.

@@ -4,8 +4,8 @@ use Prim.Native.Nat.{ℕ, zero, suc}
 use Rattle.refusals.specs.Answer.{Answer, gives, refused}
 use Rattle.flash.specs.declared.Geometry.{Geometry}
 use Rattle.flash.specs.Buffers.{Flash}
-use Rattle.trailer.specs.declared.BootStatus.the-variants.{Success}
-use Rattle.trailer.specs.declared.UpdateStatus.the-variants.{Updating}
+use Rattle.status.specs.declared.BootStatus.the-variants.{Success}
+use Rattle.status.specs.declared.UpdateStatus.the-variants.{Updating}
 use Rattle.trailer.specs.SectorFlags.{flagsAt}
 use Rattle.exchange.specs.declared.Operation.the-variants.{EraseUpdateTrailer, WriteBootStatus, WriteUpdateStatus}
 use Rattle.exchange.specs.Operations.{perform}

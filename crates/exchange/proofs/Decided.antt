@@ -8,13 +8,13 @@ use Rattle.flash.specs.declared.Geometry.{Geometry}
 use Rattle.flash.specs.declared.SectorNumber.{SectorNumber}
 use Rattle.flash.specs.Sizes.{Limits}
 use Rattle.flash.specs.Buffers.{Flash, Shaped}
-use Rattle.trailer.specs.declared.BootStatus.{BootStatus}
-use Rattle.trailer.specs.declared.UpdateStatus.{UpdateStatus}
+use Rattle.status.specs.declared.BootStatus.{BootStatus}
+use Rattle.status.specs.declared.UpdateStatus.{UpdateStatus}
 use Rattle.trailer.specs.declared.Leg.{Leg}
 use Rattle.trailer.specs.declared.Leg.the-variants.{UpdateToSwap, BootToUpdate, SwapToBoot}
 use Rattle.trailer.specs.declared.Flags.{Flags}
 use Rattle.trailer.specs.declared.Flags.the-variants.{AllF, At, All0}
-use Rattle.trailer.specs.StatusBytes.{bootStatusAt, updateStatusAt}
+use Rattle.status.specs.StatusBytes.{bootStatusAt, updateStatusAt}
 use Rattle.trailer.specs.SectorFlags.{flagsAt}
 use Rattle.exchange.specs.Decision.{Check, noReason, work, decideBy, decide}
 use Rattle.exchange.specs.Demand.{Exchange, jobOf}

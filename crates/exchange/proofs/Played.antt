@@ -10,10 +10,10 @@ use Rattle.refusals.specs.Answer.{Answer, gives}
 use Rattle.flash.specs.declared.Geometry.{Geometry}
 use Rattle.flash.specs.Sizes.{firmware, Limits}
 use Rattle.flash.specs.Buffers.{Flash, fits}
-use Rattle.trailer.specs.declared.BootStatus.{BootStatus}
-use Rattle.trailer.specs.declared.UpdateStatus.{UpdateStatus}
+use Rattle.status.specs.declared.BootStatus.{BootStatus}
+use Rattle.status.specs.declared.UpdateStatus.{UpdateStatus}
 use Rattle.trailer.specs.declared.Flag.the-variants.{Exchanged}
-use Rattle.trailer.specs.StatusBytes.{bootStatusAt, updateStatusAt}
+use Rattle.status.specs.StatusBytes.{bootStatusAt, updateStatusAt}
 use Rattle.exchange.specs.declared.Next.{Next}
 use Rattle.exchange.specs.declared.Next.the-variants.{Nothing}
 use Rattle.exchange.specs.Order.{nextOperation, Run, run}

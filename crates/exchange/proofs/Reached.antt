@@ -10,11 +10,11 @@ use Rattle.flash.specs.declared.Geometry.{Geometry}
 use Rattle.flash.specs.Sizes.{geometry, withinLimits, firmware, Limits}
 use Rattle.flash.specs.Sectors.{sectorNumber}
 use Rattle.flash.specs.Buffers.{Flash, flash, partitionFits, fits}
-use Rattle.trailer.specs.declared.BootStatus.{BootStatus}
-use Rattle.trailer.specs.declared.UpdateStatus.{UpdateStatus}
+use Rattle.status.specs.declared.BootStatus.{BootStatus}
+use Rattle.status.specs.declared.UpdateStatus.{UpdateStatus}
 use Rattle.trailer.specs.declared.Leg.the-variants.{UpdateToSwap}
 use Rattle.trailer.specs.declared.Flags.the-variants.{AllF}
-use Rattle.trailer.specs.StatusBytes.{bootStatusAt, updateStatusAt}
+use Rattle.status.specs.StatusBytes.{bootStatusAt, updateStatusAt}
 use Rattle.trailer.specs.SectorFlags.{flagsAt}
 use Rattle.exchange.specs.declared.Area.the-variants.{Swap}
 use Rattle.exchange.specs.declared.Operation.the-variants.{Erase, Copy}

@@ -10,13 +10,13 @@ use Rattle.flash.specs.declared.Geometry.{Geometry}
 use Rattle.flash.specs.Sizes.{firmware, Limits}
 use Rattle.flash.specs.Sectors.{sectorNumber, erased}
 use Rattle.flash.specs.Buffers.{Flash, Shaped}
-use Rattle.trailer.specs.declared.BootStatus.{BootStatus}
+use Rattle.status.specs.declared.BootStatus.{BootStatus}
 use Rattle.trailer.specs.declared.Flag.{Flag}
 use Rattle.trailer.specs.declared.Flag.the-variants.{Untouched, Exchanged}
 use Rattle.trailer.specs.declared.FlagRead.the-variants.{Known}
 use Rattle.trailer.specs.declared.Leg.{Leg}
 use Rattle.trailer.specs.declared.Leg.the-variants.{UpdateToSwap, BootToUpdate, SwapToBoot}
-use Rattle.trailer.specs.StatusBytes.{bootByte, bootStatusOf, bootStatusAt, updateStatusOf, updateStatusAt}
+use Rattle.status.specs.StatusBytes.{bootByte, bootStatusOf, bootStatusAt, updateStatusOf, updateStatusAt}
 use Rattle.trailer.specs.SectorFlags.{flagAt, setFlag}
 use Rattle.exchange.specs.declared.Area.{Area}
 use Rattle.exchange.specs.declared.Area.the-variants.{Boot, Update, Swap}

@@ -11,14 +11,14 @@ use Rattle.flash.specs.declared.Geometry.{Geometry}
 use Rattle.flash.specs.Sizes.{firmware, Limits}
 use Rattle.flash.specs.Sectors.{sectorNumber, erased}
 use Rattle.flash.specs.Buffers.{Flash, Shaped}
-use Rattle.trailer.specs.declared.BootStatus.{BootStatus}
-use Rattle.trailer.specs.declared.BootStatus.the-variants.{New as BootNew, Testing, Success}
-use Rattle.trailer.specs.declared.UpdateStatus.{UpdateStatus}
-use Rattle.trailer.specs.declared.UpdateStatus.the-variants.{New as UpdateNew, Updating}
+use Rattle.status.specs.declared.BootStatus.{BootStatus}
+use Rattle.status.specs.declared.BootStatus.the-variants.{New as BootNew, Testing, Success}
+use Rattle.status.specs.declared.UpdateStatus.{UpdateStatus}
+use Rattle.status.specs.declared.UpdateStatus.the-variants.{New as UpdateNew, Updating}
 use Rattle.trailer.specs.declared.Leg.{Leg}
 use Rattle.trailer.specs.declared.Leg.the-variants.{UpdateToSwap, BootToUpdate, SwapToBoot}
 use Rattle.trailer.specs.declared.Flags.the-variants.{All0}
-use Rattle.trailer.specs.StatusBytes.{bootStatusAt, updateStatusOf, updateStatusAt}
+use Rattle.status.specs.StatusBytes.{bootStatusAt, updateStatusOf, updateStatusAt}
 use Rattle.trailer.specs.SectorFlags.{flagsAt}
 use Rattle.exchange.specs.declared.Area.the-variants.{Boot, Update as UpdateArea}
 use Rattle.exchange.specs.declared.Operation.{Operation}

@@ -5,8 +5,8 @@ use native.Mathlib.Omega.{arith}
 use Rattle.flash.specs.declared.Geometry.{Geometry}
 use Rattle.flash.specs.Sizes.{Limits}
 use Rattle.flash.specs.Buffers.{Flash}
-use Rattle.trailer.specs.declared.BootStatus.{BootStatus}
-use Rattle.trailer.specs.declared.UpdateStatus.{UpdateStatus}
+use Rattle.status.specs.declared.BootStatus.{BootStatus}
+use Rattle.status.specs.declared.UpdateStatus.{UpdateStatus}
 use Rattle.exchange.specs.declared.Operation.{Operation}
 use Rattle.exchange.specs.declared.Next.the-variants.{Nothing}
 use Rattle.exchange.specs.Operations.{perform, placeAfter}

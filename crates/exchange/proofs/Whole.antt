@@ -8,14 +8,14 @@ use Rattle.refusals.specs.Answer.{Answer, gives}
 use Rattle.flash.specs.declared.Geometry.{Geometry}
 use Rattle.flash.specs.Sizes.{firmware, Limits}
 use Rattle.flash.specs.Buffers.{Flash, fits}
-use Rattle.trailer.specs.declared.BootStatus.{BootStatus}
-use Rattle.trailer.specs.declared.UpdateStatus.{UpdateStatus}
-use Rattle.trailer.specs.declared.UpdateStatus.the-variants.{New as UpdateNew}
+use Rattle.status.specs.declared.BootStatus.{BootStatus}
+use Rattle.status.specs.declared.UpdateStatus.{UpdateStatus}
+use Rattle.status.specs.declared.UpdateStatus.the-variants.{New as UpdateNew}
 use Rattle.trailer.specs.declared.Flag.{Flag}
 use Rattle.trailer.specs.declared.Flag.the-variants.{Untouched, Exchanged}
 use Rattle.trailer.specs.declared.Leg.the-variants.{UpdateToSwap}
 use Rattle.trailer.specs.declared.Flags.the-variants.{AllF}
-use Rattle.trailer.specs.StatusBytes.{bootStatusAt, updateStatusAt}
+use Rattle.status.specs.StatusBytes.{bootStatusAt, updateStatusAt}
 use Rattle.trailer.specs.SectorFlags.{flagsAt}
 use Rattle.exchange.specs.Operations.{get, oldBootIn, oldUpdateIn}
 use Rattle.exchange.specs.Decision.{Check}

@@ -10,12 +10,12 @@ use Rattle.refusals.specs.Answer.{gives}
 use Rattle.flash.specs.declared.Geometry.{Geometry}
 use Rattle.flash.specs.Sizes.{geometry}
 use Rattle.flash.specs.Buffers.{Flash, fits}
-use Rattle.trailer.specs.declared.BootStatus.{BootStatus}
-use Rattle.trailer.specs.declared.BootStatus.the-variants.{Testing, Success}
-use Rattle.trailer.specs.declared.UpdateStatus.{UpdateStatus}
-use Rattle.trailer.specs.declared.UpdateStatus.the-variants.{New, Updating}
+use Rattle.status.specs.declared.BootStatus.{BootStatus}
+use Rattle.status.specs.declared.BootStatus.the-variants.{Testing, Success}
+use Rattle.status.specs.declared.UpdateStatus.{UpdateStatus}
+use Rattle.status.specs.declared.UpdateStatus.the-variants.{New, Updating}
 use Rattle.trailer.specs.declared.Flags.the-variants.{AllF}
-use Rattle.trailer.specs.StatusBytes.{bootStatusAt, updateStatusAt}
+use Rattle.status.specs.StatusBytes.{bootStatusAt, updateStatusAt}
 use Rattle.trailer.specs.SectorFlags.{flagsAt}
 use Rattle.exchange.specs.Decision.{Check}
 use Rattle.exchange.specs.PowerUp.{Outcome, refusal, cut, runsOnTest, runsFallenBack, powerUp}

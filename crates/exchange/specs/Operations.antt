@@ -10,7 +10,7 @@ use Rattle.trailer.specs.declared.Flag.{Flag}
 use Rattle.trailer.specs.declared.Flag.the-variants.{Untouched, Saved, Moved, Exchanged}
 use Rattle.trailer.specs.declared.Leg.{Leg}
 use Rattle.trailer.specs.declared.Leg.the-variants.{UpdateToSwap, BootToUpdate, SwapToBoot}
-use Rattle.trailer.specs.StatusBytes.{setBootStatus, setUpdateStatus}
+use Rattle.status.specs.StatusBytes.{setBootStatus, setUpdateStatus}
 use Rattle.trailer.specs.SectorFlags.{setFlag}
 use Rattle.exchange.specs.declared.Area.{Area}
 use Rattle.exchange.specs.declared.Area.the-variants.{Boot, Update, Swap}

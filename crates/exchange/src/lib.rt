@@ -1,9 +1,9 @@
 // The exchange of BOOT and UPDATE: its single operations, its jobs, and in specs/ the rules of document 01 that order them.
 use flash::SectorNumber;
-use trailer::BootStatus;
+use status::BootStatus;
+use status::UpdateStatus;
 use trailer::Flag;
 use trailer::Leg;
-use trailer::UpdateStatus;
 
 // The three lent buffers.
 pub enum Area {

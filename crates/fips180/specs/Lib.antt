@@ -1,3 +1,2 @@
--- SHA-256: the standard, and what it says of its definitions.
+-- SHA-256: the standard.
 pub mod Sha256
-pub mod Rules

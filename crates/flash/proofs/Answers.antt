@@ -13,7 +13,7 @@ use Rattle.flash.specs.declared.GeometryAnswer.the-variants.{Outside}
 use Rattle.flash.specs.Sizes.{geometry, partitionSize, withinLimits, Limits, geometryAnswer, geometryWhere, geometryOf}
 use Rattle.flash.specs.Sectors.{Partition}
 use Rattle.flash.specs.Buffers.{Flash, flash, partitionFits, fits, Shaped, partitionOf, flashOf}
-use Rattle.flash.proofs.Checked.{limits-of, partition-of, shaped-of}
+use Rattle.flash.proofs.Checked.{limits-of, partition-of, shaped-of, shaped-fits}
 
 -- what is given is the geometry that was asked for, and the rules hold of it
 record Given (b : Bool) (n s : ℕ) (g : Geometry) : Type 0 where
@@ -94,3 +94,15 @@ unfolding flashOf
 flash-given n s f g e =
     let t = given (fits (geometry n s) f) n s g e in
     rw (t .is) (shaped-of (geometry n s) f (t .holds))
+
+-- the geometry given is the one asked for, and the buffers fit it; where none is given, they do not
+pub flash-asked : (n s : ℕ) (f : Flash) (g : Geometry) → gives g ≡ flashOf n s f → geometry n s ≡ g
+unfolding flashOf
+flash-asked n s f g e = sym (given (fits (geometry n s) f) n s g e .is)
+
+pub flash-fits : (n s : ℕ) (f : Flash) (g : Geometry) → gives g ≡ flashOf n s f → fits g f ≡ true
+flash-fits n s f g e = shaped-fits g f (flash-given n s f g e)
+
+pub flash-unfit : (n s : ℕ) (f : Flash) → geometryAnswer Outside ≡ flashOf n s f → fits (geometry n s) f ≡ false
+unfolding flashOf
+flash-unfit n s f e = not-given (fits (geometry n s) f) n s e

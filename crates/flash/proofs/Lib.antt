@@ -2,7 +2,6 @@
 -- The rules of a geometry and of the lengths as facts; what the checks answer
 pub mod Checked
 pub mod Answers
--- parts of a list and writes over them; a lent part, erased and copied; the write of a sector against every sector
+-- parts of a list and writes over them; the write of a sector against every sector
 pub mod Bytes
-pub mod Lent
 pub mod Laws

@@ -1,15 +1,10 @@
--- Document 01, "The flash": a sector, and what an erase and a copy leave.
+-- Document 01, "The flash": a sector, and what a write to it leaves.
 use mathlib.Core.Path.{_≡_}
-use mathlib.Core.Bool.{cond}
 use mathlib.Core.List.{List, _++_}
 use Prim.Native.Nat.{ℕ, _+_, _*_, _≤_}
 use lib.ListN.{length, take, drop, replicate}
-use lib.Dec.{eqb}
-use Rattle.refusals.specs.Answer.{Answer, gives, refused}
 use Rattle.flash.specs.declared.Geometry.{Geometry}
 use Rattle.flash.specs.declared.SectorNumber.{SectorNumber}
-use Rattle.flash.specs.declared.CopyAnswer.{CopyAnswer}
-use Rattle.flash.specs.declared.CopyAnswer.the-variants.{Done, Unequal}
 use Rattle.flash.specs.Sizes.{Limits, firmware, partitionSize}
 
 abbrev pub sectorNumber : ℕ → SectorNumber
@@ -49,20 +44,3 @@ firmwareOf g l = take (firmware g * g .size) l
 -- an erased sector of s bytes: nothing but FF
 unfoldable pub erased : ℕ → List ℕ
 erased s = replicate s 0xFF
-
--- lengths that differ are refusal 1
-abbrev pub copyAnswer : CopyAnswer → Answer (Unit {0})
-copyAnswer Done = gives tt
-copyAnswer Unequal = refused 1 0
-
--- what a copy answers, and the bytes of its target afterwards
-pub record Copy : Type 0 where
-  pub answer : Answer (Unit {0})
-  pub bytes : List ℕ
-
-abbrev pub copied : CopyAnswer → List ℕ → Copy
-copied a l = record { answer = copyAnswer a; bytes = l }
-
--- a copy puts the source's bytes in place of the target's; refused, it leaves the target alone
-unfoldable pub copyOf : List ℕ → List ℕ → Copy
-copyOf target source = cond (eqb (length target) (length source)) (copied Done source) (copied Unequal target)

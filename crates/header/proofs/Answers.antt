@@ -1,5 +1,5 @@
 -- What the reader answers, by the tests on the way. Assumes nothing.
-use mathlib.Core.Path.{_≡_, refl, sym, ap, _∙_}
+use mathlib.Core.Path.{_≡_, sym, ap, _∙_}
 use Prim.Native.Nat.{ℕ, _≤_, _<_}
 use mathlib.Core.List.{List}
 use lib.ListN.{length, take}
@@ -9,12 +9,14 @@ use borrow.Author.Tests.{lt-ltb, le-ltb, eq-eqb, ne-eqb}
 use Rattle.refusals.specs.Answer.{Answer, gives, refused, then}
 use Rattle.tags.specs.Bytes.{number}
 use Rattle.tags.proofs.Laws.{refused-gives}
-use Rattle.header.specs.declared.HeaderOutcome.{HeaderOutcome}
-use Rattle.header.specs.declared.HeaderOutcome.the-variants.{Accepted, TooShort, WrongMagic, ZeroSize, TagDoesNotFit, WrongLength, Repeated, NoEnd, Missing}
+use Rattle.places.specs.declared.HeaderOutcome.{HeaderOutcome}
+use Rattle.places.specs.declared.HeaderOutcome.the-variants.{Accepted}
+use Rattle.places.specs.Table.{documentTable}
+use Rattle.places.specs.Judging.{answerOf, placesIn}
+use Rattle.places.proofs.Refusals.{refusing}
 use Rattle.header.specs.declared.Header.{Header}
 use Rattle.header.specs.declared.HeaderAnswer.{HeaderAnswer}
-use Rattle.header.specs.Table.{documentTable, magic}
-use Rattle.header.specs.Reading.{answerOf, placesIn, part, valuesAt, readHeader, blank, valuesOf, Reads}
+use Rattle.header.specs.Reading.{magic, part, valuesAt, readHeader, blank, valuesOf, Reads}
 
 -- a refusal, with a blank header
 pub turned : {s : List ℕ} {r : HeaderAnswer} {o : HeaderOutcome} {n p : ℕ} → (r .outcome ≡ o) × (r .header ≡ blank)
@@ -54,23 +56,6 @@ taken-in {s} {v} o l out is val by =
     let e : readHeader s ≡ gives v =
     by ∙ ap (λ (a : Answer (List ℕ)). then a f) (sym out ∙ ap (λ (x : HeaderOutcome). answerOf x l) is) ∙ ap gives (sym val) in
     record { outcome = sym e; values = sym (ap valuesOf e) }
-
--- an outcome that is not `Accepted` is a refusal, whatever stands beside it
-pub record Refusing (o : HeaderOutcome) : Type 1 where
-  pub number : ℕ
-  pub place : ℕ
-  pub is : {A : Type 0} (a : A) → answerOf o a ≡ refused number place
-
-pub refusing : (o : HeaderOutcome) → (o ≡ Accepted → ⊥) → Refusing o
-refusing Accepted x = absurd (x refl)
-refusing TooShort x = record { number = 16; place = 0; is = λ a. refl }
-refusing WrongMagic x = record { number = 2; place = 0; is = λ a. refl }
-refusing ZeroSize x = record { number = 3; place = 4; is = λ a. refl }
-refusing (TagDoesNotFit p) x = record { number = 4; place = p; is = λ a. refl }
-refusing (WrongLength p) x = record { number = 5; place = p; is = λ a. refl }
-refusing (Repeated p) x = record { number = 6; place = p; is = λ a. refl }
-refusing (NoEnd p) x = record { number = 7; place = p; is = λ a. refl }
-refusing (Missing t) x = record { number = 8; place = t; is = λ a. refl }
 
 -- the tags are refused
 pub turned-on : {s : List ℕ} {o : HeaderOutcome} {r : HeaderAnswer} (l : List ℕ) → answerOf o l ≡ placesIn documentTable (take 256 s)

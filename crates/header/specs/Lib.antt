@@ -1,3 +1,2 @@
--- The header of document 01: the table of tags, and what the reader makes of bytes.
-pub mod Table
+-- The header of document 01: what the reader makes of bytes.
 pub mod Reading

@@ -1,13 +1,15 @@
-// The reader of a rustBoot header: its tags by a table of types and lengths.
-use tags::Tag;
+// The reader of a rustBoot header: the values of its tags.
+use places::HeaderOutcome;
+use places::ROWS;
 ghost use mathlib.Core.Path.{_≡_};
 ghost use Prim.Native.Nat.{_+_, _*_, _≤_};
 ghost use mathlib.Core.Bool.{cond};
 ghost use lib.ListN.{length, replicate};
 ghost use lib.Dec.{eqb};
 ghost use Rattle.tags.specs.Bytes.{number};
-ghost use Rattle.header.specs.Table.{table, documentTable};
-ghost use Rattle.header.specs.Reading.{answerOf, rowOf, placesIn, part, valuesAt, blank, Reads, Within};
+ghost use Rattle.places.specs.Table.{documentTable};
+ghost use Rattle.places.specs.Judging.{Within};
+ghost use Rattle.header.specs.Reading.{part, valuesAt, blank, Reads};
 
 // What a header carries.
 pub struct Header {
@@ -58,11 +60,7 @@ impl Header {
     }
 }
 
-// How many rows the table of tags has, and how many of them, from the first on, are required.
-const ROWS: usize = 6;
-
-const REQUIRED: usize = 5;
-
+// The table of tags: the types, the lengths of their values, and how many of the rows, from the first on, are required.
 const TYPES: [usize; ROWS] = [
     Header::VERSION,
     Header::TIMESTAMP,
@@ -74,112 +72,12 @@ const TYPES: [usize; ROWS] = [
 
 const LENGTHS: [usize; ROWS] = [4, 8, 32, 64, 2, 32];
 
-// What a header is: accepted, or refused, with the place.
-pub enum HeaderOutcome {
-    Accepted,
-    TooShort,
-    WrongMagic,
-    ZeroSize,
-    TagDoesNotFit(usize),
-    WrongLength(usize),
-    Repeated(usize),
-    NoEnd(usize),
-    // The type that is missing.
-    Missing(usize),
-}
+const REQUIRED: usize = 5;
 
 // The reader's answer. The header of a refusal is blank.
 pub struct HeaderAnswer {
     pub outcome: HeaderOutcome,
     pub header: Header,
-}
-
-// The places of the table's tags, 0 where a tag was not seen, and the outcome.
-struct Places {
-    outcome: HeaderOutcome,
-    places: [usize; ROWS],
-}
-
-// The first index at which a number stands, or the length.
-fn row_of(row: &[usize], x: usize) -> usize
-    ensures { λ r. ⌜ r ≡ rowOf (now (row .entry)) x ⌝ }
-{
-    let mut i = 0;
-    while i < row.len() {
-        if row[i] == x {
-            return i;
-        }
-        i += 1;
-    }
-    i
-}
-
-// The places of a header's tags by a table.
-fn find_places(h: &[u8], types: &[usize], lengths: &[usize], required: usize) -> Places
-    requires { ⌜ (length (now types) ≡ 6) × (length (now lengths) ≡ 6) × (required ≤ 6) ⌝ }
-    ensures { λ r. ⌜ answerOf (r .outcome) (r .places) ≡ placesIn (table (now (types .entry)) (now (lengths .entry)) required) (now (h .entry)) ⌝ }
-{
-    let mut places = [0usize; ROWS];
-    let mut at = tags::FIRST_TAG;
-    loop {
-        let t = tags::read_tag(h, at);
-        match t {
-            Tag::Found {
-                place,
-                kind,
-                length,
-            } => {
-                let row = row_of(types, kind);
-                if row < types.len() {
-                    if length != lengths[row] {
-                        return Places {
-                            outcome: HeaderOutcome::WrongLength(place),
-                            places,
-                        };
-                    }
-                    if places[row] != 0 {
-                        return Places {
-                            outcome: HeaderOutcome::Repeated(place),
-                            places,
-                        };
-                    }
-                    places[row] = place;
-                }
-                at = place + 4 + length;
-            }
-            Tag::End => {
-                let first = row_of(&places[..required], 0);
-                if first < required {
-                    return Places {
-                        outcome: HeaderOutcome::Missing(types[first]),
-                        places,
-                    };
-                }
-                return Places {
-                    outcome: HeaderOutcome::Accepted,
-                    places,
-                };
-            }
-            Tag::TooShort => {
-                return Places {
-                    outcome: HeaderOutcome::TooShort,
-                    places,
-                };
-            }
-            Tag::DoesNotFit(p) => {
-                return Places {
-                    outcome: HeaderOutcome::TagDoesNotFit(p),
-                    places,
-                };
-            }
-            Tag::NoEnd(p) => {
-                return Places {
-                    outcome: HeaderOutcome::NoEnd(p),
-                    places,
-                };
-            }
-        }
-    }
 }
 
 // Numbers of two and four bytes, low byte first.
@@ -300,7 +198,7 @@ pub fn read_header(s: &[u8]) -> HeaderAnswer
     }
     let types = TYPES;
     let lengths = LENGTHS;
-    let found = find_places(h, &types, &lengths, REQUIRED);
+    let found = places::find_places(h, &types, &lengths, REQUIRED);
     let outcome = found.outcome;
     let places = found.places;
     if let HeaderOutcome::Accepted = outcome {

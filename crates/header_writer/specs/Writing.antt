@@ -8,7 +8,7 @@ use lib.ListN.{length, drop, replicate}
 use Rattle.refusals.specs.Answer.{Answer, gives, refused}
 use Rattle.tags.specs.Bytes.{littleEndian, Field, fieldBytes}
 use Rattle.header.specs.declared.Header.{Header}
-use Rattle.header.specs.Table.{magic}
+use Rattle.header.specs.Reading.{magic}
 use Rattle.header_writer.specs.declared.WriteOutcome.{WriteOutcome}
 use Rattle.header_writer.specs.declared.WriteOutcome.the-variants.{Written, TooShort, ZeroSize}
 

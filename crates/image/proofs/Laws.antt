@@ -9,13 +9,14 @@ use lib.ListN.{length, take, drop}
 use borrow.Author.Tests.{lt-ltb, le-ltb, eq-eqb, eqb-true}
 use Rattle.refusals.specs.Answer.{Answer, gives, refused, then}
 use Rattle.fips180.specs.Sha256.{sha256}
+use Rattle.places.specs.declared.HeaderOutcome.{HeaderOutcome}
+use Rattle.places.specs.declared.HeaderOutcome.the-variants.{Accepted}
+use Rattle.places.specs.Judging as header
+use Rattle.places.proofs.Refusals.{refusing}
 use Rattle.header.specs.declared.Header.{Header}
 use Rattle.header.specs.declared.HeaderAnswer.{HeaderAnswer}
-use Rattle.header.specs.declared.HeaderOutcome.{HeaderOutcome}
-use Rattle.header.specs.declared.HeaderOutcome.the-variants.{Accepted}
-use Rattle.header.specs.Reading as header
 use Rattle.header.specs.Reading.{readHeader, blank, valuesOf, Reads}
-use Rattle.header.proofs.Answers.{refusing, accepted-room}
+use Rattle.header.proofs.Answers.{accepted-room}
 use Rattle.flash.specs.declared.Geometry.{Geometry}
 use Rattle.flash.specs.Sectors.{firmwareOf}
 use Rattle.flash.specs.Buffers.{partitionOf}

@@ -7,9 +7,9 @@ use lib.Dec.{ltb, eqb}
 use lib.ListN.{length, take, drop}
 use Rattle.refusals.specs.Answer.{Answer, gives, refused, then}
 use Rattle.fips180.specs.Sha256.{sha256}
+use Rattle.places.specs.Judging as header
 use Rattle.header.specs.declared.Header.{Header}
 use Rattle.header.specs.Reading.{readHeader, valuesOf}
-use Rattle.header.specs.Reading as header
 use Rattle.flash.specs.declared.Geometry.{Geometry}
 use Rattle.flash.specs.Sectors.{firmwareOf}
 use Rattle.flash.specs.Buffers.{partitionOf}

@@ -1,7 +1,7 @@
 // The check of a firmware image: its header, its size and its digest.
 use flash::GeometryAnswer;
 use header::Header;
-use header::HeaderOutcome;
+use places::HeaderOutcome;
 ghost use mathlib.Core.Path.{_≡_};
 ghost use Rattle.fips180.specs.Sha256.{sha256};
 ghost use Rattle.header.specs.Reading.{blank};
@@ -72,7 +72,7 @@ pub fn check_image(sectors: usize, size: usize, partition: &[u8]) -> ImageAnswer
     ensures { λ r. ⌜ Checks (checkImage sectors size (now (partition .entry))) r ⌝ }
 {
     match flash::check_partition(sectors, size, partition) {
-        GeometryAnswer::Fits(g) => check_firmware(flash::firmware_part(g, partition)),
+        GeometryAnswer::Fits(g) => check_firmware(sectors::firmware_part(g, partition)),
         GeometryAnswer::Outside => refuse(ImageOutcome::OutsideRules),
     }
 }

@@ -9,7 +9,8 @@ use lib.ListN.{length, take}
 use lib.Seq.{take-take, take-all, length-take-le}
 use borrow.Author.Tests.{ltb-true, ltb-false, le-ltb}
 use Rattle.tags.specs.Walk.{itemAt, itemFrom, tagsFrom}
-use Rattle.header.specs.Reading.{judge, rowOf, placesIn, readHeader}
+use Rattle.places.specs.Judging.{judge, rowOf, placesIn}
+use Rattle.header.specs.Reading.{readHeader}
 use Rattle.header.proofs.Answers.{short}
 use Rattle.listing.specs.Listing.{placesWithin, decimal, fields, refusal, listing}
 use Rattle.listing.specs.Examples.{ListsExample, MissingVersion, ListsBytes, TooShort, FirstBytesOnly}

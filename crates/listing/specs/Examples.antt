@@ -8,7 +8,7 @@ use Rattle.io.specs.Digits.{Fewest}
 use Rattle.refusals.specs.Answer.{gives, refused}
 use Rattle.tags.specs.Bytes.{littleEndian, tagBytes}
 use Rattle.header.specs.declared.Header.{Header}
-use Rattle.header.specs.Table.{magic}
+use Rattle.header.specs.Reading.{magic}
 use Rattle.listing.specs.Listing.{places, listing, listingOf}
 
 -- A value's digits are the fewest that hold it, and at least one.

@@ -1,11 +1,11 @@
 // The listing of a header as text: its fields by name, or the line of a refusal.
 use header::Header;
-use header::HeaderOutcome;
 use output::put;
+use places::HeaderOutcome;
 ghost use mathlib.Core.Path.{_≡_};
 ghost use Prim.Native.Nat.{_+_, _≤_};
 ghost use lib.ListN.{length};
-ghost use Rattle.header.specs.Reading.{answerOf};
+ghost use Rattle.places.specs.Judging.{answerOf};
 ghost use Rattle.listing.specs.Listing.{named, line, hint, fields, refusal, saidBy, Lists};
 ghost use Rattle.output.specs.Puts.{Puts};
 

@@ -1,3 +1,3 @@
 -- The laws that the loader's proofs cite.
--- Each call by its first check
+-- Power-up by its first check
 pub mod Calls

@@ -1,3 +1,3 @@
--- The loader: what its calls promise, and what its own functions answer.
+-- Power-up: what it promises, and what its own functions answer.
 pub mod Loader
 pub mod Parts

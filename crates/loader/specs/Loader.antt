@@ -1,17 +1,11 @@
--- What power-up, arm and confirm promise: the rules of `exchange` with the delivered image check, and 01's numbers for each case of
--- the code's answers.
-use Prim.Native.Nat.{ℕ}
-use Rattle.refusals.specs.Answer.{Answer, gives, refused}
+-- What power-up promises: the rules of `exchange` with the delivered image check, and 01's numbers for each case of the code's answers.
 use Rattle.flash.specs.Buffers.{Flash}
 use Rattle.exchange.specs.PowerUp as power-up
 use Rattle.exchange.specs.PowerUp.{PowerUp, refusal, cut, runs, runsOnTest, runsFallenBack}
-use Rattle.exchange.specs.Commands.{Command}
-use Rattle.decision.specs.Numbers.{numbersOf, reasonOf, commandNumber}
+use Rattle.decision.specs.Numbers.{numbersOf, reasonOf}
 use Rattle.loader.specs.declared.Outcome.{Outcome}
 use Rattle.loader.specs.declared.Outcome.the-variants.{Refused, Cut, Run, RunOnTest, RunFallenBack}
 use Rattle.loader.specs.declared.PowerUpAnswer.{PowerUpAnswer}
-use Rattle.loader.specs.declared.CommandAnswer.{CommandAnswer}
-use Rattle.loader.specs.declared.CommandAnswer.the-variants.{Done, Refused as CommandRefused}
 
 -- "Power-up": its outcomes.
 abbrev pub outcomeOf : Outcome → power-up.Outcome
@@ -24,11 +18,3 @@ outcomeOf RunFallenBack = runsFallenBack
 -- What a power-up answers, and the flash that it leaves.
 abbrev pub answered : PowerUpAnswer → Flash → PowerUp
 answered a f = record { outcome = outcomeOf (a .outcome); reason = reasonOf (a .reason); count = a .count; flash = f }
-
--- "Arm" and "Confirm": the number of operations done, or a refusal, at no place; and the flash that they leave.
-abbrev pub commandOf : CommandAnswer → Answer ℕ
-commandOf (Done n) = gives n
-commandOf (CommandRefused r) = refused (commandNumber r) 0
-
-abbrev pub commanded : CommandAnswer → Flash → Command
-commanded a f = record { answer = commandOf a; flash = f }

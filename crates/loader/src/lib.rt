@@ -1,29 +1,23 @@
-// Power-up, arm and confirm on three lent buffers: BOOT, UPDATE and SWAP.
-use decision::CommandRefusal;
-use decision::Permit;
+// Power-up on three lent buffers: BOOT, UPDATE and SWAP.
 use decision::Plan;
 use decision::Reason;
 use decision::Refusal;
 use decision::Verdict;
 use exchange::Job;
 use exchange::Next;
-use exchange::Operation;
 use flash::Geometry;
 use flash::GeometryAnswer;
-use trailer::BootStatus;
-use trailer::UpdateStatus;
 ghost use mathlib.Core.Path.{_≡_};
 ghost use Rattle.flash.specs.Sizes.{geometry};
 ghost use Rattle.flash.specs.Sectors.{Partition};
 ghost use Rattle.flash.specs.Buffers.{flash, Shaped};
-ghost use Rattle.trailer.specs.StatusBytes.{bootStatusAt, updateStatusAt};
+ghost use Rattle.status.specs.StatusBytes.{bootStatusAt, updateStatusAt};
 ghost use Rattle.trailer.specs.SectorFlags.{flagsAt};
 ghost use Rattle.exchange.specs.Order.{orderedBy, run};
 ghost use Rattle.exchange.specs.PowerUp.{ifBootGood, doneOutcome, outcomeBy, worked, carryOut, powerUp};
-ghost use Rattle.exchange.specs.Commands.{command, armOperations, arm, confirmOperations, confirm};
 ghost use Rattle.decision.specs.Numbers.{checkOf, reasonOf};
-ghost use Rattle.decision.specs.Parts.{planOf, permitOf};
-ghost use Rattle.loader.specs.Loader.{outcomeOf, answered, commanded};
+ghost use Rattle.decision.specs.Parts.{planOf};
+ghost use Rattle.loader.specs.Loader.{outcomeOf, answered};
 ghost use Rattle.loader.specs.Parts.{idleAnswer};
 
 // Document 01's "cut", "run", "run on test" and "run, fallen back", or a refusal.
@@ -41,14 +35,6 @@ pub struct PowerUpAnswer {
     pub reason: Reason,
     pub count: u64,
 }
-
-// What arm and confirm answer: done, with the number of operations, or refused.
-pub enum CommandAnswer {
-    Done(u64),
-    Refused(CommandRefusal),
-}
-
-// ---- power-up
 
 // An answer without operations.
 fn idle(outcome: Outcome) -> PowerUpAnswer
@@ -149,96 +135,5 @@ pub fn power_up(
             carry_out(g, plan, boot, update, swap, budget)
         }
         GeometryAnswer::Outside => idle(Outcome::Refused(Refusal::OutsideRules)),
-    }
-}
-
-// ---- arm and confirm
-
-fn arm_if(
-    g: Geometry,
-    permit: Permit,
-    boot: &mut [u8],
-    update: &mut [u8],
-    swap: &mut [u8],
-) -> CommandAnswer
-    requires { ⌜ Shaped g (flash (now boot) (now update) (now swap)) ⌝ }
-    ensures { λ r. ⌜ commanded r (flash (now (boot .exit)) (now (update .exit)) (now (swap .exit))) ≡ command g armOperations (permitOf permit) (flash (now (boot .entry)) (now (update .entry)) (now (swap .entry))) ⌝ }
-{
-    match permit {
-        Permit::Granted => {
-            steps::perform(g, Operation::EraseUpdateTrailer, boot, update, swap);
-            steps::perform(
-                g,
-                Operation::WriteUpdateStatus(UpdateStatus::Updating),
-                boot,
-                update,
-                swap,
-            );
-            CommandAnswer::Done(2)
-        }
-        Permit::Denied(refusal) => CommandAnswer::Refused(refusal),
-    }
-}
-
-fn confirm_if(
-    g: Geometry,
-    permit: Permit,
-    boot: &mut [u8],
-    update: &mut [u8],
-    swap: &mut [u8],
-) -> CommandAnswer
-    requires { ⌜ Shaped g (flash (now boot) (now update) (now swap)) ⌝ }
-    ensures { λ r. ⌜ commanded r (flash (now (boot .exit)) (now (update .exit)) (now (swap .exit))) ≡ command g confirmOperations (permitOf permit) (flash (now (boot .entry)) (now (update .entry)) (now (swap .entry))) ⌝ }
-{
-    match permit {
-        Permit::Granted => {
-            steps::perform(
-                g,
-                Operation::WriteBootStatus(BootStatus::Success),
-                boot,
-                update,
-                swap,
-            );
-            CommandAnswer::Done(1)
-        }
-        Permit::Denied(refusal) => CommandAnswer::Refused(refusal),
-    }
-}
-
-// Arms the update that stands in UPDATE. Any numbers, lengths and bytes are taken.
-pub fn arm(
-    sectors: usize,
-    size: usize,
-    boot: &mut [u8],
-    update: &mut [u8],
-    swap: &mut [u8],
-) -> CommandAnswer
-    ensures { λ r. ⌜ commanded r (flash (now (boot .exit)) (now (update .exit)) (now (swap .exit))) ≡ arm (geometry sectors size) (flash (now (boot .entry)) (now (update .entry)) (now (swap .entry))) ⌝ }
-{
-    match flash::check_flash(sectors, size, boot, update, swap) {
-        GeometryAnswer::Fits(g) => {
-            let permit = decision::decide_arm(g, boot, update);
-            arm_if(g, permit, boot, update, swap)
-        }
-        GeometryAnswer::Outside => CommandAnswer::Refused(CommandRefusal::OutsideRules),
-    }
-}
-
-// Keeps the image that runs on test. Any numbers, lengths and bytes are taken.
-pub fn confirm(
-    sectors: usize,
-    size: usize,
-    boot: &mut [u8],
-    update: &mut [u8],
-    swap: &mut [u8],
-) -> CommandAnswer
-    ensures { λ r. ⌜ commanded r (flash (now (boot .exit)) (now (update .exit)) (now (swap .exit))) ≡ confirm (geometry sectors size) (flash (now (boot .entry)) (now (update .entry)) (now (swap .entry))) ⌝ }
-{
-    match flash::check_flash(sectors, size, boot, update, swap) {
-        GeometryAnswer::Fits(g) => {
-            let permit = decision::decide_confirm(g, boot, update);
-            confirm_if(g, permit, boot, update, swap)
-        }
-        GeometryAnswer::Outside => CommandAnswer::Refused(CommandRefusal::OutsideRules),
     }
 }

@@ -1,13 +1,13 @@
 // Runs power-up, arm and confirm on real images, three sectors of 256: every budget from 0 to 25 and every pair of them, on an update and on
 // a fallback; document 01's marked cases on real images; and what is turned down or refused.
-use decision::CommandRefusal;
+use commands::CommandAnswer;
+use commands::CommandRefusal;
 use decision::Reason;
 use decision::Refusal;
 use header::Header;
 use image::ImageOutcome;
 use libc::STDOUT_FILENO;
 use listing::Verdict;
-use loader::CommandAnswer;
 use loader::Outcome;
 use sha256::Hasher;
 
@@ -292,12 +292,12 @@ fn commands(label: &[u8], boot: [u8; PARTITION], update: [u8; PARTITION]) {
     let mut s = [0x5Au8; SIZE];
     print(label);
     print(b"\narm ");
-    print_command(loader::arm(SECTORS, SIZE, &mut b, &mut u, &mut s));
+    print_command(commands::arm(SECTORS, SIZE, &mut b, &mut u, &mut s));
     print_flash(b, u, s);
     let mut b = boot;
     let mut u = update;
     print(b"confirm ");
-    print_command(loader::confirm(SECTORS, SIZE, &mut b, &mut u, &mut s));
+    print_command(commands::confirm(SECTORS, SIZE, &mut b, &mut u, &mut s));
     print_flash(b, u, s);
 }
 

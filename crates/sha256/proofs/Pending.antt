@@ -156,6 +156,22 @@ ends-law d {t} h et eb eh =
     ap (λ (x : Hasher). x .words) (filled d (0x80 ∷ tail z (8 * d .count)) (omega arith) w eh)
     ∙ ap (λ (x : ℕ). absorbOf d (0x80 ∷ tail x (8 * d .count)) .words) e
 
+-- a part that fills the pending block, and then a block
+two-blocks : (d : Hasher) (p q : List ℕ) {t s h : List ℕ} → d .count % 64 + length p ≡ 64 → length q ≡ 64 → t ≡ waiting d ++ p
+    → s ≡ compress (d .words) (words t) → h ≡ compress s (words q) → h ≡ absorbOf d (p ++ q) .words
+two-blocks d p q {t} {s} lp lq et es eh =
+    let n : ℕ = (d .count + length p) % 2 ^ 64 in
+    let full : Hasher = record { words = s; pending = replicate 64 0; count = n } in
+    let c : n % 64 ≡ 0 = omega arith in
+    let none : q ≡ waiting full ++ q = ap (λ (x : List ℕ). x ++ q) (sym (nothing-waits full c)) in
+    let two = filled full q (omega arith) none eh in
+    ap (λ (x : Hasher). x .words) (two ∙ ap (λ (x : Hasher). absorbOf x q) (filled d p lp et es) ∙ concatenation d p q)
+
+tail-split : (a b n : ℕ) → replicate a 0 ++ tail b n ≡ tail (a + b) n
+tail-split a b n =
+    sym (append-assoc (replicate a 0) (replicate b 0) (bigEndian 8 n))
+    ∙ ap (λ (x : List ℕ). x ++ bigEndian 8 n) (replicate-append-replicate a b 0)
+
 -- the padding takes one block more
 pub more-law : (d : Hasher) {t b s h : List ℕ} → 56 ≤ d .count % 64 → t ≡ (waiting d ++ 0x80 ∷ []) ++ replicate (64 - (d .count % 64 + 1)) 0
     → s ≡ compress (d .words) (words t) → b ≡ take 56 (replicate 64 0) ++ bigEndian 8 (d .count * 2 ^ 3 % 2 ^ 64) → h ≡ compress s (words b)
@@ -163,20 +179,13 @@ pub more-law : (d : Hasher) {t b s h : List ℕ} → 56 ≤ d .count % 64 → t 
 unfolding padding zeros
 more-law d {t} {b} {s} h et es eb eh =
     let z : ℕ = 64 - (d .count % 64 + 1) in
-    let p : List ℕ = 0x80 ∷ replicate z 0 in
-    let q : List ℕ = tail 56 (8 * d .count) in
+    let n : ℕ = 8 * d .count in
     let lz : length {A = ℕ} (replicate z 0) ≡ z = length-replicate z 0 in
-    let lp : length p ≡ z + 1 = omega arith in
+    let lp : d .count % 64 + length (0x80 ∷ replicate {A = ℕ} z 0) ≡ 64 = omega arith in
     let e : z + 56 ≡ (119 - d .count % 64) % 64 = omega arith in
-    let one = filled d p (omega arith) (et ∙ append-assoc (waiting d) (0x80 ∷ []) (replicate z 0)) es in
-    let n : ℕ = (d .count + length p) % 2 ^ 64 in
-    let full : Hasher = record { words = s; pending = replicate 64 0; count = n } in
-    let c : n % 64 ≡ 0 = omega arith in
-    let f = field-wrap (d .count * 2 ^ 3 % 2 ^ 64) (8 * d .count) (omega arith) in
-    let none : waiting full ≡ [] = nothing-waits full c in
-    let w = eb ∙ ap (λ (x : List ℕ). replicate 56 0 ++ x) f ∙ ap (λ (x : List ℕ). x ++ q) (sym none) in
-    let two = filled full q (omega (arith, length-tail 56 (8 * d .count))) w eh in
-    ap (λ (x : Hasher). x .words) (two ∙ ap (λ (x : Hasher). absorbOf x q) one ∙ concatenation d p q)
-    ∙ ap (λ (x : List ℕ). absorbOf d (0x80 ∷ x) .words)
-    (sym (append-assoc (replicate z 0) (replicate 56 0) (bigEndian 8 (8 * d .count)))
-    ∙ ap (λ (x : List ℕ). x ++ bigEndian 8 (8 * d .count)) (sym (zeros-split z 56 _ (sym e))))
+    let f = field-wrap (d .count * 2 ^ 3 % 2 ^ 64) n (omega arith) in
+    let q : b ≡ tail 56 n = eb ∙ ap (λ (x : List ℕ). replicate 56 0 ++ x) f in
+    two-blocks d (0x80 ∷ replicate z 0) (tail 56 n) lp (length-tail 56 n) (et ∙ append-assoc (waiting d) (0x80 ∷ []) (replicate z 0)) es
+    (eh ∙ ap (λ (x : List ℕ). compress s (words x)) q)
+    ∙ ap (λ (x : List ℕ). absorbOf d (0x80 ∷ x) .words) (tail-split z 56 n)
+    ∙ ap (λ (x : ℕ). absorbOf d (0x80 ∷ tail x n) .words) e

@@ -9,15 +9,15 @@ use Rattle.flash.specs.declared.SectorNumber.{SectorNumber}
 use Rattle.flash.specs.Sizes.{firmware, Limits}
 use Rattle.flash.specs.Sectors.{sectorNumber}
 use Rattle.flash.proofs.Checked.{sectors-are, some-firmware}
-use Rattle.trailer.specs.declared.BootStatus.{BootStatus}
-use Rattle.trailer.specs.declared.BootStatus.the-variants.{New as BootNew, Testing, Success}
-use Rattle.trailer.specs.declared.UpdateStatus.{UpdateStatus}
-use Rattle.trailer.specs.declared.UpdateStatus.the-variants.{New as UpdateNew, Updating}
+use Rattle.status.specs.declared.BootStatus.{BootStatus}
+use Rattle.status.specs.declared.BootStatus.the-variants.{New as BootNew, Testing, Success}
+use Rattle.status.specs.declared.UpdateStatus.{UpdateStatus}
+use Rattle.status.specs.declared.UpdateStatus.the-variants.{New as UpdateNew, Updating}
 use Rattle.trailer.specs.declared.Leg.{Leg}
 use Rattle.trailer.specs.declared.Leg.the-variants.{UpdateToSwap}
 use Rattle.trailer.specs.declared.Flags.{Flags}
 use Rattle.trailer.specs.declared.Flags.the-variants.{Malformed, AllF, At, All0}
-use Rattle.trailer.specs.StatusBytes.{bootStatusAt, updateStatusAt}
+use Rattle.status.specs.StatusBytes.{bootStatusAt, updateStatusAt}
 use Rattle.trailer.specs.SectorFlags.{flagsAt}
 use Rattle.trailer.proofs.Shown.{each-at}
 use Rattle.exchange.specs.declared.Job.{Job}

@@ -1,5 +1,5 @@
--- The laws that the proofs of this crate cite, and those above it.
+-- The laws that the proofs of this crate cite.
 -- The next operation by what the code reads; its sector; the loop of steps
-pub mod Orders
-pub mod Bounds
-pub mod Runs
+mod Orders
+mod Bounds
+mod Runs

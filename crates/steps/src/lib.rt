@@ -1,46 +1,21 @@
 // The single step: the operation that document 01 orders next, found by reading the bytes, and done.
-mod order;
-
 use exchange::Area;
 use exchange::Job;
 use exchange::Next;
 use exchange::Operation;
 use flash::Geometry;
 use flash::SectorNumber;
-use trailer::BootStatus;
-use trailer::BootStatusAnswer;
+use status::Statuses;
 use trailer::Leg;
-use trailer::UpdateStatus;
-use trailer::UpdateStatusAnswer;
 ghost use mathlib.Core.Path.{_≡_};
 ghost use Prim.Native.Nat.{_<_};
 ghost use Rattle.flash.specs.Sectors.{Partition, erased};
 ghost use Rattle.flash.specs.Buffers.{flash, Shaped};
-ghost use Rattle.trailer.specs.StatusBytes.{bootStatusAt, updateStatusAt};
+ghost use Rattle.status.specs.StatusBytes.{bootStatusAt, updateStatusAt};
 ghost use Rattle.trailer.specs.SectorFlags.{flagsAt};
 ghost use Rattle.exchange.specs.Operations.{source, target, get, put, perform};
 ghost use Rattle.exchange.specs.Order.{orderedBy, step, run};
-ghost use Rattle.steps.specs.Parts.{statusesOf, bothStatuses, Within, stepped, ran};
-
-// BOOT's and UPDATE's status, where both bytes are allowed.
-pub enum Statuses {
-    Allowed(BootStatus, UpdateStatus),
-    NotAllowed,
-}
-
-// BOOT is looked at first.
-pub fn read_statuses(g: Geometry, boot: &[u8], update: &[u8]) -> Statuses
-    requires { ⌜ (Partition g (now boot)) × (Partition g (now update)) ⌝ }
-    ensures { λ r. ⌜ statusesOf r ≡ bothStatuses (bootStatusAt g (now (boot .entry))) (updateStatusAt g (now (update .entry))) ⌝ }
-{
-    match trailer::read_boot_status(g, boot) {
-        BootStatusAnswer::Boot(b) => match trailer::read_update_status(g, update) {
-            UpdateStatusAnswer::Update(u) => Statuses::Allowed(b, u),
-            UpdateStatusAnswer::NotAllowed => Statuses::NotAllowed,
-        },
-        BootStatusAnswer::NotAllowed => Statuses::NotAllowed,
-    }
-}
+ghost use Rattle.steps.specs.Parts.{Within, stepped, ran};
 
 // Erases sector i of an area. SWAP is one sector, whatever i.
 fn erase_in(
@@ -55,9 +30,9 @@ fn erase_in(
     ensures { λ _. ⌜ flash (now (boot .exit)) (now (update .exit)) (now (swap .exit)) ≡ put g area (i .0) (erased (g .size)) (flash (now (boot .entry)) (now (update .entry)) (now (swap .entry))) ⌝ }
 {
     match area {
-        Area::Boot => flash::erase_sector(g, boot, i),
-        Area::Update => flash::erase_sector(g, update, i),
-        Area::Swap => flash::erase(swap),
+        Area::Boot => sectors::erase_sector(g, boot, i),
+        Area::Update => sectors::erase_sector(g, update, i),
+        Area::Swap => sectors::erase(swap),
     }
 }
 
@@ -74,9 +49,9 @@ fn copy_for(
     ensures { λ _. ⌜ flash (now (boot .exit)) (now (update .exit)) (now (swap .exit)) ≡ put g (target leg) (i .0) (get g (source leg) (i .0) (flash (now (boot .entry)) (now (update .entry)) (now (swap .entry)))) (flash (now (boot .entry)) (now (update .entry)) (now (swap .entry))) ⌝ }
 {
     match leg {
-        Leg::UpdateToSwap => flash::copy_to_swap(g, swap, update, i),
-        Leg::BootToUpdate => flash::copy_sector(g, update, boot, i),
-        Leg::SwapToBoot => flash::copy_from_swap(g, boot, swap, i),
+        Leg::UpdateToSwap => sectors::copy_to_swap(g, swap, update, i),
+        Leg::BootToUpdate => sectors::copy_sector(g, update, boot, i),
+        Leg::SwapToBoot => sectors::copy_from_swap(g, boot, swap, i),
     }
 }
 
@@ -90,13 +65,13 @@ pub fn perform(g: Geometry, op: Operation, boot: &mut [u8], update: &mut [u8], s
         Operation::Copy(leg, i) => copy_for(g, leg, i, boot, update, swap),
         Operation::WriteFlag(i, flag) => trailer::write_flag(g, update, i, flag),
         Operation::EraseBootTrailer => {
-            flash::erase_sector(g, boot, SectorNumber(g.firmware_sectors()))
+            sectors::erase_sector(g, boot, SectorNumber(g.firmware_sectors()))
         }
         Operation::EraseUpdateTrailer => {
-            flash::erase_sector(g, update, SectorNumber(g.firmware_sectors()))
+            sectors::erase_sector(g, update, SectorNumber(g.firmware_sectors()))
         }
-        Operation::WriteBootStatus(s) => trailer::write_boot_status(g, boot, s),
-        Operation::WriteUpdateStatus(s) => trailer::write_update_status(g, update, s),
+        Operation::WriteBootStatus(s) => status::write_boot_status(g, boot, s),
+        Operation::WriteUpdateStatus(s) => status::write_update_status(g, update, s),
     }
 }
 
@@ -105,7 +80,7 @@ pub fn find_next(g: Geometry, job: Job, place: u8, boot: &[u8], update: &[u8]) -
     requires { ⌜ (Partition g (now boot)) × (Partition g (now update)) ⌝ }
     ensures { λ r. ⌜ r ≡ orderedBy job place (bootStatusAt g (now (boot .entry))) (updateStatusAt g (now (update .entry))) (flagsAt g (now (update .entry))) ⌝ }
 {
-    match read_statuses(g, boot, update) {
+    match status::read_statuses(g, boot, update) {
         Statuses::Allowed(b, u) => {
             order::next_operation(job, place, b, u, trailer::read_flags(g, update))
         }

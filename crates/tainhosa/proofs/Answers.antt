@@ -7,11 +7,11 @@ use borrow.Author.Tests.{eq-eqb}
 use Rattle.refusals.specs.Answer.{Answer}
 use Rattle.flash.specs.Sizes.{geometry}
 use Rattle.flash.specs.Buffers.{Flash}
+use Rattle.places.specs.declared.HeaderOutcome.{HeaderOutcome}
+use Rattle.places.specs.declared.HeaderOutcome.the-variants.{Accepted, TooShort, WrongMagic, ZeroSize, TagDoesNotFit, WrongLength, Repeated, NoEnd, Missing}
+use Rattle.places.specs.Judging as header
 use Rattle.header.specs.declared.Header.{Header}
 use Rattle.header.specs.declared.HeaderAnswer.{HeaderAnswer}
-use Rattle.header.specs.declared.HeaderOutcome.{HeaderOutcome}
-use Rattle.header.specs.declared.HeaderOutcome.the-variants.{Accepted, TooShort, WrongMagic, ZeroSize, TagDoesNotFit, WrongLength, Repeated, NoEnd, Missing}
-use Rattle.header.specs.Reading as header
 use Rattle.header.specs.Reading.{readHeader, valuesOf, Reads}
 use Rattle.header_writer.specs.Writing.{Write, writeHeader}
 use Rattle.image.specs.declared.ImageAnswer.{ImageAnswer}
@@ -23,8 +23,9 @@ use Rattle.exchange.specs.PowerUp.{powerUp}
 use Rattle.exchange.specs.Commands.{Command}
 use Rattle.decision.specs.Numbers.{checkOf, reasonOf}
 use Rattle.loader.specs.declared.PowerUpAnswer.{PowerUpAnswer}
-use Rattle.loader.specs.declared.CommandAnswer.{CommandAnswer}
-use Rattle.loader.specs.Loader.{outcomeOf, answered, commandOf, commanded}
+use Rattle.loader.specs.Loader.{outcomeOf, answered}
+use Rattle.commands.specs.declared.CommandAnswer.{CommandAnswer}
+use Rattle.commands.specs.Numbers.{commandOf, commanded}
 use Rattle.tags.specs.Walk.{Item, walkAt, placeAfter}
 use Rattle.c_answers.specs.declared.Refused.{Refused}
 use Rattle.c_answers.specs.declared.Ended.{Ended}

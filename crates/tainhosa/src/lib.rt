@@ -178,7 +178,7 @@ pub extern "C" fn tainhosa_arm(
     if count.len() != COMMAND_NUMBERS {
         return WRONG_LENGTH;
     }
-    let a = loader::arm(sectors, size, boot, update, swap);
+    let a = commands::arm(sectors, size, boot, update, swap);
     let row = [c_answers::count_of(a)];
     c_answers::put_numbers(count, &row);
     c_answers::of_command(a)
@@ -199,7 +199,7 @@ pub extern "C" fn tainhosa_confirm(
     if count.len() != COMMAND_NUMBERS {
         return WRONG_LENGTH;
     }
-    let a = loader::confirm(sectors, size, boot, update, swap);
+    let a = commands::confirm(sectors, size, boot, update, swap);
     let row = [c_answers::count_of(a)];
     c_answers::put_numbers(count, &row);
     c_answers::of_command(a)

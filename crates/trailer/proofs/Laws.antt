@@ -16,15 +16,15 @@ use Rattle.flash.specs.Sectors.{sectorOf, writeSector, firmwareOf, erased}
 use Rattle.flash.proofs.Checked.{some-firmware, size-split, sector-end}
 use Rattle.flash.proofs.Bytes.{part-set}
 use Rattle.flash.proofs.Laws.{byte-above, trailer-byte}
-use Rattle.trailer.specs.declared.BootStatus.{BootStatus}
-use Rattle.trailer.specs.declared.BootStatus.the-variants.{New as BootNew, Testing, Success}
-use Rattle.trailer.specs.declared.UpdateStatus.{UpdateStatus}
-use Rattle.trailer.specs.declared.UpdateStatus.the-variants.{New as UpdateNew, Updating}
+use Rattle.status.specs.declared.BootStatus.{BootStatus}
+use Rattle.status.specs.declared.BootStatus.the-variants.{New as BootNew, Testing, Success}
+use Rattle.status.specs.declared.UpdateStatus.{UpdateStatus}
+use Rattle.status.specs.declared.UpdateStatus.the-variants.{New as UpdateNew, Updating}
 use Rattle.trailer.specs.declared.Flag.{Flag}
 use Rattle.trailer.specs.declared.Flag.the-variants.{Untouched, Saved, Moved, Exchanged}
 use Rattle.trailer.specs.declared.FlagRead.the-variants.{Known}
 use Rattle.trailer.specs.declared.Flags.the-variants.{AllF}
-use Rattle.trailer.specs.StatusBytes.{statusPlace, statusByte, setStatusByte, bootByte, bootStatusOf, bootStatusAt, setBootStatus, updateByte, updateStatusOf, updateStatusAt, setUpdateStatus}
+use Rattle.status.specs.StatusBytes.{statusPlace, statusByte, setStatusByte, bootByte, bootStatusOf, bootStatusAt, setBootStatus, updateByte, updateStatusOf, updateStatusAt, setUpdateStatus}
 use Rattle.trailer.specs.SectorFlags.{flagValue, flagOf, flagByte, half, withHalf, flagAt, setFlag, flagsAt}
 use Rattle.trailer.proofs.Halves.{value-small, half-same, half-other, half-narrow, half-full}
 use Rattle.trailer.proofs.Shown.{flags-same, shown-all-F}

@@ -1,4 +1,4 @@
--- The trailer sector has room for the status byte and for the flags.
+-- The trailer sector has room for the flags.
 use Prim.Native.Nat.{ℕ, _+_, _/_, _≤_, _<_}
 use native.Mathlib.Nat.{mul-le-mul-right}
 use native.Mathlib.Omega.{arith}
@@ -7,10 +7,7 @@ use Rattle.flash.specs.Sizes.{firmware, partitionSize, Limits}
 use Rattle.flash.proofs.Checked.{some-firmware, size-split}
 use Rattle.trailer.specs.SectorFlags.{flagByte}
 
--- the status byte, and the byte of sector i's flag, lie in the partition
-pub status-room : (g : Geometry) → Limits g → 256 ≤ partitionSize g
-status-room g G = omega (arith, size-split g G, G .small)
-
+-- the byte of sector i's flag lies in the partition
 pub flag-room : (g : Geometry) → Limits g → (i : ℕ) → i < firmware g → 3 + i / 2 ≤ partitionSize g
 flag-room g G i h = omega (arith, size-split g G, G .trailer, G .small, mul-le-mul-right (g .size) (some-firmware g G))
 

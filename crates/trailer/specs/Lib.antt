@@ -1,3 +1,2 @@
--- Document 01, "The flash": the trailer sector, in its order.
-pub mod StatusBytes
+-- Document 01, "The flash": the sector flags.
 pub mod SectorFlags

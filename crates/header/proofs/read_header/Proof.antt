@@ -6,9 +6,9 @@ use native.Mathlib.Omega.{arith}
 use types.Run.{miss}
 use lib.Seq.{length-take-le}
 use lib.ListN.{take}
-use Rattle.header.specs.declared.HeaderOutcome.{HeaderOutcome}
-use Rattle.header.specs.Reading.{answerOf}
-use Rattle.header.proofs.Fitting.{found-within}
+use Rattle.places.specs.declared.HeaderOutcome.{HeaderOutcome}
+use Rattle.places.specs.Judging.{answerOf}
+use Rattle.places.proofs.Fitting.{found-within}
 use Rattle.header.proofs.Answers.{turned, short, no-magic, no-size, by-tags, taken-in, turned-on}
 use Rattle.header.proofs.read_header.Statement.{statement}
 use Rattle.header.proofs.read_header.Tie as tie

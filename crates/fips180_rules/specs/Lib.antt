@@ -1,0 +1,2 @@
+-- What the standard says of its definitions.
+pub mod Rules

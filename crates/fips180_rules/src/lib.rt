@@ -1,0 +1,1 @@
+// The standard's own rules hold of its definitions, and its examples come out: theorems only.

@@ -1,0 +1,4 @@
+-- Laws of the table's judgement, which the proofs of this crate and of its callers cite.
+pub mod Judged
+pub mod Fitting
+pub mod Refusals

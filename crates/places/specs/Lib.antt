@@ -1,0 +1,3 @@
+-- The table of tags of document 01, and where a header's tags stand: the walk judged by the table.
+pub mod Table
+pub mod Judging

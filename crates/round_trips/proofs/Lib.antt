@@ -1,0 +1,5 @@
+-- The proofs of the statements of specs/.
+pub mod Numbers
+pub mod Back
+pub mod Again
+pub mod Marked

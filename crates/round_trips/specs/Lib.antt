@@ -1,0 +1,3 @@
+-- What holds between the writer and the reader of a header, and document 01's marked cases on headers.
+pub mod RoundTrips
+pub mod Cases

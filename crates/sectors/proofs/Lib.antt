@@ -1,0 +1,2 @@
+-- A lent part, erased and copied.
+mod Lent

@@ -1,0 +1,2 @@
+-- Document 01, "The flash": copies.
+pub mod Copying

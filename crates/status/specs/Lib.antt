@@ -1,0 +1,2 @@
+-- Document 01, "The flash": the status bytes.
+pub mod StatusBytes
