@@ -58,24 +58,32 @@ fn first(s: &[u8], n: usize) -> &[u8] {
     if n <= s.len() { &s[..n] } else { s }
 }
 
-fn lengths(s: &[u8]) {
-    buffers(2, 256, first(s, 512), first(s, 512), first(s, 256));
-    buffers(2, 256, first(s, 511), first(s, 512), first(s, 256));
-    buffers(2, 256, first(s, 513), first(s, 512), first(s, 256));
-    buffers(2, 256, first(s, 0), first(s, 512), first(s, 256));
-    buffers(2, 256, first(s, 512), first(s, 511), first(s, 256));
-    buffers(2, 256, first(s, 512), first(s, 513), first(s, 256));
-    buffers(2, 256, first(s, 512), first(s, 0), first(s, 256));
-    buffers(2, 256, first(s, 512), first(s, 512), first(s, 255));
-    buffers(2, 256, first(s, 512), first(s, 512), first(s, 257));
-    buffers(2, 256, first(s, 512), first(s, 512), first(s, 0));
+// Buffers that are the first so many bytes of s.
+fn sized(s: &[u8], n: usize, size: usize, boot: usize, update: usize, swap: usize) {
+    buffers(n, size, first(s, boot), first(s, update), first(s, swap));
+}
+
+fn boot_lengths(s: &[u8]) {
+    sized(s, 2, 256, 512, 512, 256);
+    sized(s, 2, 256, 511, 512, 256);
+    sized(s, 2, 256, 513, 512, 256);
+    sized(s, 2, 256, 0, 512, 256);
+}
+
+fn other_lengths(s: &[u8]) {
+    sized(s, 2, 256, 512, 511, 256);
+    sized(s, 2, 256, 512, 513, 256);
+    sized(s, 2, 256, 512, 0, 256);
+    sized(s, 2, 256, 512, 512, 255);
+    sized(s, 2, 256, 512, 512, 257);
+    sized(s, 2, 256, 512, 512, 0);
 }
 
 fn geometries_of_buffers(s: &[u8]) {
-    buffers(3, 256, first(s, 512), first(s, 512), first(s, 256));
-    buffers(3, 256, s, s, first(s, 256));
-    buffers(65, 256, first(s, 512), first(s, 512), first(s, 256));
-    buffers(2, 384, s, s, first(s, 384));
+    sized(s, 3, 256, 512, 512, 256);
+    sized(s, 3, 256, 768, 768, 256);
+    sized(s, 65, 256, 512, 512, 256);
+    sized(s, 2, 384, 768, 768, 384);
 }
 
 fn partition(n: usize, size: usize, s: &[u8]) {
@@ -202,7 +210,7 @@ fn copies(source: &[u8]) {
     copy(&mut short, source);
 }
 
-fn main() {
+fn geometries() {
     four_sizes(64);
     four_sizes(65);
     four_sizes(1);
@@ -210,20 +218,25 @@ fn main() {
     geometry(2, 0);
     geometry(0, 256);
     geometry(18446744073709551615, 18446744073709551615);
-    let s = [0u8; 768];
-    lengths(&s);
-    geometries_of_buffers(&s);
-    partitions(&s);
+}
+
+fn boot_statuses() {
     boot_byte(0xFF);
     boot_byte(0x70);
     boot_byte(0x10);
     boot_byte(0x00);
     boot_byte(0x01);
+}
+
+fn update_statuses() {
     update_byte(0xFF);
     update_byte(0x70);
     update_byte(0x10);
     update_byte(0x00);
     update_byte(0x01);
+}
+
+fn well_formed() {
     two_flags(0xFF);
     two_flags(0xF7);
     two_flags(0xF3);
@@ -231,12 +244,32 @@ fn main() {
     two_flags(0x70);
     two_flags(0x30);
     two_flags(0x00);
+}
+
+fn malformed() {
     two_flags(0x7F);
     two_flags(0x73);
     two_flags(0xF5);
+}
+
+fn half_bytes() {
     one_flag(0xAF);
     one_flag(0xA7);
     one_flag(0xA0);
     one_flag(0xFA);
+}
+
+fn main() {
+    geometries();
+    let s = [0u8; 768];
+    boot_lengths(&s);
+    other_lengths(&s);
+    geometries_of_buffers(&s);
+    partitions(&s);
+    boot_statuses();
+    update_statuses();
+    well_formed();
+    malformed();
+    half_bytes();
     copies(first(&s, 256));
 }

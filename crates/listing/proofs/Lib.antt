@@ -1,5 +1,3 @@
--- Laws of text written one part behind another, of a number's digits, of the reader's answer, and the proofs of the statements of specs/.
-pub mod Numbers
-pub mod Putting
+-- From the reader's answer to the listing, and the proofs of the statements of specs/.
 pub mod Said
 pub mod Marked

@@ -12,7 +12,8 @@ use Rattle.tags.specs.Walk.{itemAt, itemFrom, tagsFrom}
 use Rattle.places.specs.Judging.{judge, rowOf, placesIn}
 use Rattle.header.specs.Reading.{readHeader}
 use Rattle.header.proofs.Answers.{short}
-use Rattle.listing.specs.Listing.{placesWithin, decimal, fields, refusal, listing}
+use Rattle.lines.specs.Lines.{placesWithin, decimal, fields, refusal}
+use Rattle.listing.specs.Listing.{listing}
 use Rattle.listing.specs.Examples.{ListsExample, MissingVersion, ListsBytes, TooShort, FirstBytesOnly}
 
 pub lists-example : ListsExample

@@ -4,16 +4,11 @@ use Prim.Native.Nat.{ℕ, _-_, _<_}
 use mathlib.Core.List.{List, [], _∷_, _++_}
 use mathlib.Core.Bool.{false}
 use lib.ListN.{length, take, replicate}
-use Rattle.io.specs.Digits.{Fewest}
 use Rattle.refusals.specs.Answer.{gives, refused}
 use Rattle.tags.specs.Bytes.{littleEndian, tagBytes}
 use Rattle.header.specs.declared.Header.{Header}
 use Rattle.header.specs.Reading.{magic}
-use Rattle.listing.specs.Listing.{places, listing, listingOf}
-
--- A value's digits are the fewest that hold it, and at least one.
-abbrev pub FewestDigits : Type 0
-FewestDigits = (n : ℕ) → Fewest 10 1 n (places n)
+use Rattle.listing.specs.Listing.{listing, listingOf}
 
 -- Size 256, version 7, timestamp 1700000000, auth type 512 and no hint, with any digest, signature and bytes of a hint.
 abbrev pub exampleHeader : List ℕ → List ℕ → List ℕ → Header

@@ -1,78 +1,15 @@
--- Document 01, the listing program: the text that it prints, byte by byte, as ASCII codes.
+-- Document 01, the listing program: the whole text that it prints.
 use mathlib.Core.Path.{_≡_}
-use Prim.Native.Nat.{ℕ, zero, suc, _/_}
-use mathlib.Core.List.{List, [], _∷_, _++_}
-use mathlib.Core.Bool.{Bool, true, false}
-use lib.Dec.{ltb}
+use Prim.Native.Nat.{ℕ}
+use mathlib.Core.List.{List, _++_}
 use lib.ListN.{length, drop}
-use Rattle.io.specs.Digits.{digits}
 use Rattle.io.specs.Counts.{Counts}
 use Rattle.refusals.specs.Answer.{Answer, gives, refused}
 use Rattle.header.specs.declared.Header.{Header}
 use Rattle.header.specs.Reading.{readHeader}
+use Rattle.lines.specs.Lines.{fields, refusal}
 use Rattle.listing.specs.declared.Verdict.{Verdict}
 use Rattle.listing.specs.declared.Verdict.the-variants.{Accepted, Refused}
-
--- How many decimal digits a number has: one if it is below 10, else one more than its tenth. The first argument bounds the count.
-unfoldable pub placesWithin : ℕ → ℕ → ℕ
-placesWithin zero n = 1
-placesWithin (suc most) n = elim (ltb n 10) [ true ↦ 1 | false ↦ suc (placesWithin most (n / 10)) ]
-
--- No number has more digits than the number itself, save 0, which has one.
-abbrev pub places : ℕ → ℕ
-places n = placesWithin n n
-
--- Values, numbers and places are printed in decimal: at least one digit, and no zero in front of another.
-unfoldable pub decimal : ℕ → List ℕ
-decimal n = digits 10 (places n) n
-
--- Words with a number behind them.
-abbrev pub named : List ℕ → ℕ → List ℕ
-named words n = words ++ decimal n
-
--- Text with a line end behind it.
-abbrev pub line : List ℕ → List ℕ
-line text = text ++ 10 ∷ []
-
--- The names of the four numbers. "size "
-abbrev pub size : List ℕ
-size = 115 ∷ 105 ∷ 122 ∷ 101 ∷ 32 ∷ []
-
--- "version "
-abbrev pub version : List ℕ
-version = 118 ∷ 101 ∷ 114 ∷ 115 ∷ 105 ∷ 111 ∷ 110 ∷ 32 ∷ []
-
--- "timestamp "
-abbrev pub timestamp : List ℕ
-timestamp = 116 ∷ 105 ∷ 109 ∷ 101 ∷ 115 ∷ 116 ∷ 97 ∷ 109 ∷ 112 ∷ 32 ∷ []
-
--- "auth "
-abbrev pub auth : List ℕ
-auth = 97 ∷ 117 ∷ 116 ∷ 104 ∷ 32 ∷ []
-
--- "hint yes" where the header has a hint, "hint no" where it has none.
-abbrev pub hint : Bool → List ℕ
-hint true = 104 ∷ 105 ∷ 110 ∷ 116 ∷ 32 ∷ 121 ∷ 101 ∷ 115 ∷ []
-hint false = 104 ∷ 105 ∷ 110 ∷ 116 ∷ 32 ∷ 110 ∷ 111 ∷ []
-
--- "refused ", before a refusal's number
-abbrev pub refusedWord : List ℕ
-refusedWord = 114 ∷ 101 ∷ 102 ∷ 117 ∷ 115 ∷ 101 ∷ 100 ∷ 32 ∷ []
-
--- " at ", before its place
-abbrev pub atWord : List ℕ
-atWord = 32 ∷ 97 ∷ 116 ∷ 32 ∷ []
-
--- A header's five fields, each by name and value on a line of its own, the hint as yes or no.
-unfoldable pub fields : Header → List ℕ
-fields v =
-    line (named size (v .size))
-    ++ (line (named version (v .version))
-    ++ (line (named timestamp (v .timestamp)) ++ (line (named auth (v .«auth_type»)) ++ line (hint (v .«has_hint»)))))
-
--- A refusal is one line: its number, and its place.
-unfoldable pub refusal : ℕ → ℕ → List ℕ
-refusal n p = line (named refusedWord n ++ named atWord p)
 
 -- What the program prints, and no more: the five lines, or the refusal's line.
 abbrev pub listing : Answer Header → List ℕ

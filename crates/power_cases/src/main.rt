@@ -1,13 +1,10 @@
 // Runs power-up, arm and confirm on real images, three sectors of 256: every budget from 0 to 25 and every pair of them, on an update and on
 // a fallback; document 01's marked cases on real images; and what is turned down or refused.
+use c_loading::Ended;
 use commands::CommandAnswer;
-use commands::CommandRefusal;
 use decision::Reason;
-use decision::Refusal;
 use header::Header;
-use image::ImageOutcome;
 use libc::STDOUT_FILENO;
-use listing::Verdict;
 use loader::Outcome;
 use sha256::Hasher;
 
@@ -65,40 +62,18 @@ fn partition_of(version: u8, status: u8) -> [u8; PARTITION] {
 
 // ---- what is printed
 
-fn print_refused(number: u64, inner: Verdict) {
-    print_number(b"refused ", number);
-    match inner {
-        Verdict::Accepted => print(b""),
-        Verdict::Refused(n, p) => {
-            print_number(b" for ", n as u64);
-            print_number(b" at ", p as u64);
-        }
-    }
-}
-
-fn image_verdict(o: ImageOutcome) -> Verdict {
-    match o {
-        ImageOutcome::Good => Verdict::Accepted,
-        ImageOutcome::OutsideRules => Verdict::Refused(1, 0),
-        ImageOutcome::BadHeader(h) => listing::verdict_of(h),
-        ImageOutcome::TooLarge => Verdict::Refused(3, 4),
-        ImageOutcome::WrongDigest => Verdict::Refused(9, 256),
-    }
-}
-
-fn print_refusal(r: Refusal) {
-    match r {
-        Refusal::OutsideRules => print_refused(1, Verdict::Accepted),
-        Refusal::StatusNotAllowed => print_refused(10, Verdict::Accepted),
-        Refusal::FlagsMalformed => print_refused(11, Verdict::Accepted),
-        Refusal::BadBoot(o) => print_refused(12, image_verdict(o)),
-        Refusal::NoFallback(o) => print_refused(13, image_verdict(o)),
+// A refusal by its number, with the own number and place of a bad image within it.
+fn print_refused(ended: Ended) {
+    print_number(b"refused ", ended.number as u64);
+    if ended.inner != 0 {
+        print_number(b" for ", ended.inner);
+        print_number(b" at ", ended.place);
     }
 }
 
 fn print_outcome(o: Outcome) {
     match o {
-        Outcome::Refused(r) => print_refusal(r),
+        Outcome::Refused(_) => print_refused(c_loading::of_outcome(o)),
         Outcome::Cut => print(b"cut"),
         Outcome::Run => print(b"run"),
         Outcome::RunOnTest => print(b"run on test"),
@@ -107,16 +82,10 @@ fn print_outcome(o: Outcome) {
 }
 
 fn print_reason(r: Reason) {
-    match r {
-        Reason::None => print(b""),
-        Reason::NotNewer => print(b", turned down with 15 at 0"),
-        Reason::BadUpdate(o) => match image_verdict(o) {
-            Verdict::Accepted => print(b""),
-            Verdict::Refused(n, p) => {
-                print_number(b", turned down with ", n as u64);
-                print_number(b" at ", p as u64);
-            }
-        },
+    let why = c_loading::of_reason(r);
+    if why.number != 0 {
+        print_number(b", turned down with ", why.number as u64);
+        print_number(b" at ", why.place);
     }
 }
 
@@ -126,42 +95,51 @@ fn print_answer(outcome: Outcome, count: u64, reason: Reason) {
     print_reason(reason);
 }
 
-// The status bytes, the flag byte, and the first bytes of the digest of the whole flash.
-fn print_flash(boot: [u8; PARTITION], update: [u8; PARTITION], swap: [u8; SIZE]) {
+fn print_trailers(boot: [u8; PARTITION], update: [u8; PARTITION]) {
     print_byte(b"; boot ", boot[767]);
     print_byte(b" update ", update[767]);
     print_byte(b" flags ", update[766]);
+}
+
+fn print_four(digest: [u8; 32]) {
+    print_byte(b" bytes ", digest[0]);
+    print_byte(b"", digest[1]);
+    print_byte(b"", digest[2]);
+    print_byte(b"", digest[3]);
+    print(b"\n");
+}
+
+// The status bytes, the flag byte, and the first bytes of the digest of the whole flash.
+fn print_flash(boot: [u8; PARTITION], update: [u8; PARTITION], swap: [u8; SIZE]) {
+    print_trailers(boot, update);
     let all = Hasher::new()
         .absorb(&boot)
         .absorb(&update)
         .absorb(&swap)
         .finish();
-    print_byte(b" bytes ", all[0]);
-    print_byte(b"", all[1]);
-    print_byte(b"", all[2]);
-    print_byte(b"", all[3]);
-    print(b"\n");
+    print_four(all);
 }
 
 // ---- the runs
+
+// A power-up, and what it answers.
+fn power(boot: &mut [u8], update: &mut [u8], swap: &mut [u8], budget: u64) {
+    print_number(b"", budget);
+    print(b" ");
+    let x = loader::power_up(SECTORS, SIZE, boot, update, swap, budget);
+    let outcome = x.outcome;
+    let reason = x.reason;
+    print_answer(outcome, x.count, reason);
+}
 
 // Two power-ups, one after the other.
 fn two(boot: [u8; PARTITION], update: [u8; PARTITION], swap: [u8; SIZE], first: u64, second: u64) {
     let mut b = boot;
     let mut u = update;
     let mut s = swap;
-    print_number(b"", first);
-    print(b" ");
-    let x = loader::power_up(SECTORS, SIZE, &mut b, &mut u, &mut s, first);
-    let x_outcome = x.outcome;
-    let x_reason = x.reason;
-    print_answer(x_outcome, x.count, x_reason);
-    print_number(b"; ", second);
-    print(b" ");
-    let y = loader::power_up(SECTORS, SIZE, &mut b, &mut u, &mut s, second);
-    let y_outcome = y.outcome;
-    let y_reason = y.reason;
-    print_answer(y_outcome, y.count, y_reason);
+    power(&mut b, &mut u, &mut s, first);
+    print(b"; ");
+    power(&mut b, &mut u, &mut s, second);
     print_flash(b, u, s);
 }
 
@@ -170,12 +148,7 @@ fn one(boot: [u8; PARTITION], update: [u8; PARTITION], swap: [u8; SIZE], budget:
     let mut b = boot;
     let mut u = update;
     let mut s = swap;
-    print_number(b"", budget);
-    print(b" ");
-    let x = loader::power_up(SECTORS, SIZE, &mut b, &mut u, &mut s, budget);
-    let x_outcome = x.outcome;
-    let x_reason = x.reason;
-    print_answer(x_outcome, x.count, x_reason);
+    power(&mut b, &mut u, &mut s, budget);
     print_flash(b, u, s);
 }
 
@@ -195,6 +168,14 @@ fn budgets(boot: [u8; PARTITION], update: [u8; PARTITION], swap: [u8; SIZE]) {
     }
 }
 
+fn with_byte(partition: [u8; PARTITION], at: usize, value: u8) -> [u8; PARTITION] {
+    let mut p = partition;
+    if at < PARTITION {
+        p[at] = value;
+    }
+    p
+}
+
 // The same three budgets for each start that is turned down, refused or plain.
 fn few(label: &[u8], boot: [u8; PARTITION], update: [u8; PARTITION]) {
     print(label);
@@ -205,148 +186,142 @@ fn few(label: &[u8], boot: [u8; PARTITION], update: [u8; PARTITION]) {
     one(boot, update, swap, 100);
 }
 
-fn with_byte(partition: [u8; PARTITION], at: usize, value: u8) -> [u8; PARTITION] {
-    let mut p = partition;
-    if at < PARTITION {
-        p[at] = value;
-    }
-    p
+// A start by its versions and statuses.
+fn start(label: &[u8], boot: u8, boot_status: u8, update: u8, update_status: u8) {
+    few(
+        label,
+        partition_of(boot, boot_status),
+        partition_of(update, update_status),
+    );
+}
+
+// An update from version 7 to 8 with a byte of BOOT and one of UPDATE set. The bytes at 767 are the statuses.
+fn update(label: &[u8], boot_at: usize, boot_byte: u8, update_at: usize, update_byte: u8) {
+    few(
+        label,
+        with_byte(partition_of(7, 0x00), boot_at, boot_byte),
+        with_byte(partition_of(8, 0x70), update_at, update_byte),
+    );
+}
+
+// The same for a fallback from version 7 to 6.
+fn fallback(label: &[u8], boot_at: usize, boot_byte: u8, update_at: usize, update_byte: u8) {
+    few(
+        label,
+        with_byte(partition_of(7, 0x10), boot_at, boot_byte),
+        with_byte(partition_of(6, 0xFF), update_at, update_byte),
+    );
 }
 
 fn turned_down() {
-    let boot = partition_of(7, 0x00);
-    few(b"equal versions", boot, partition_of(7, 0x70));
-    few(b"older version", boot, partition_of(6, 0x70));
-    few(b"one more", boot, partition_of(8, 0x70));
-    few(
-        b"bad UPDATE",
-        boot,
-        with_byte(partition_of(8, 0x70), 300, 0),
-    );
-    few(
-        b"bad UPDATE header",
-        boot,
-        with_byte(partition_of(8, 0x70), 0, 0),
-    );
-    few(b"bad BOOT", with_byte(boot, 511, 0), partition_of(8, 0x70));
-    few(
-        b"both bad",
-        with_byte(boot, 511, 0),
-        with_byte(partition_of(8, 0x70), 300, 0),
-    );
-    few(b"BOOT is NEW", partition_of(7, 0xFF), partition_of(8, 0x70));
+    start(b"equal versions", 7, 0x00, 7, 0x70);
+    start(b"older version", 7, 0x00, 6, 0x70);
+    start(b"one more", 7, 0x00, 8, 0x70);
 }
 
-fn refused() {
-    let boot = partition_of(7, 0x00);
-    let update = partition_of(8, 0x70);
-    few(b"BOOT status 70", partition_of(7, 0x70), update);
-    few(b"UPDATE status 10", boot, partition_of(8, 0x10));
-    few(b"flag byte 7F", boot, with_byte(update, 766, 0x7F));
-    few(b"flag byte F7", boot, with_byte(update, 766, 0xF7));
-    few(b"flag byte F1", boot, with_byte(update, 766, 0xF1));
-    few(b"flag byte 00", boot, with_byte(update, 766, 0x00));
-    few(
-        b"TESTING and UPDATING, flags F",
-        partition_of(7, 0x10),
-        update,
-    );
-    few(
-        b"TESTING and UPDATING, flags 0",
-        partition_of(7, 0x10),
-        with_byte(update, 766, 0x00),
-    );
-    few(b"plain", boot, partition_of(8, 0xFF));
-    few(
-        b"plain, bad BOOT",
-        with_byte(boot, 511, 0),
-        partition_of(8, 0xFF),
-    );
-    few(
-        b"fallback, bad UPDATE",
-        partition_of(7, 0x10),
-        with_byte(partition_of(6, 0xFF), 300, 0),
-    );
-    few(
-        b"fallback, bad BOOT",
-        with_byte(partition_of(7, 0x10), 511, 0),
-        partition_of(6, 0xFF),
-    );
+fn bad_images() {
+    update(b"bad UPDATE", 767, 0x00, 300, 0);
+    update(b"bad UPDATE header", 767, 0x00, 0, 0);
+    update(b"bad BOOT", 511, 0, 767, 0x70);
+    update(b"both bad", 511, 0, 300, 0);
+}
+
+fn statuses() {
+    start(b"BOOT is NEW", 7, 0xFF, 8, 0x70);
+    start(b"BOOT status 70", 7, 0x70, 8, 0x70);
+    start(b"UPDATE status 10", 7, 0x00, 8, 0x10);
+}
+
+fn flags() {
+    update(b"flag byte 7F", 767, 0x00, 766, 0x7F);
+    update(b"flag byte F7", 767, 0x00, 766, 0xF7);
+    update(b"flag byte F1", 767, 0x00, 766, 0xF1);
+    update(b"flag byte 00", 767, 0x00, 766, 0x00);
+}
+
+fn closing() {
+    start(b"TESTING and UPDATING, flags F", 7, 0x10, 8, 0x70);
+    update(b"TESTING and UPDATING, flags 0", 767, 0x10, 766, 0x00);
+}
+
+fn plain() {
+    start(b"plain", 7, 0x00, 8, 0xFF);
+    update(b"plain, bad BOOT", 511, 0, 767, 0xFF);
+}
+
+fn fallbacks() {
+    fallback(b"fallback, bad UPDATE", 767, 0x10, 300, 0);
+    fallback(b"fallback, bad BOOT", 511, 0, 767, 0xFF);
 }
 
 fn print_command(answer: CommandAnswer) {
     match answer {
         CommandAnswer::Done(n) => print_number(b"done with ", n),
-        CommandAnswer::Refused(r) => match r {
-            CommandRefusal::OutsideRules => print(b"refused 1"),
-            CommandRefusal::StatusNotAllowed => print(b"refused 10"),
-            CommandRefusal::FlagsMalformed => print(b"refused 11"),
-            CommandRefusal::WrongTime => print(b"refused 14"),
-        },
+        CommandAnswer::Refused(_) => {
+            print_number(b"refused ", c_loading::of_command(answer) as u64)
+        }
     }
 }
 
-fn commands(label: &[u8], boot: [u8; PARTITION], update: [u8; PARTITION]) {
+fn arm(boot: [u8; PARTITION], update: [u8; PARTITION]) {
     let mut b = boot;
     let mut u = update;
     let mut s = [0x5Au8; SIZE];
-    print(label);
-    print(b"\narm ");
+    print(b"arm ");
     print_command(commands::arm(SECTORS, SIZE, &mut b, &mut u, &mut s));
     print_flash(b, u, s);
+}
+
+fn confirm(boot: [u8; PARTITION], update: [u8; PARTITION]) {
     let mut b = boot;
     let mut u = update;
+    let mut s = [0x5Au8; SIZE];
     print(b"confirm ");
     print_command(commands::confirm(SECTORS, SIZE, &mut b, &mut u, &mut s));
     print_flash(b, u, s);
 }
 
-fn all_commands() {
-    commands(
-        b"SUCCESS, NEW",
-        partition_of(7, 0x00),
-        partition_of(8, 0xFF),
-    );
-    commands(b"NEW, NEW", partition_of(7, 0xFF), partition_of(8, 0xFF));
-    commands(
-        b"TESTING, NEW",
-        partition_of(7, 0x10),
-        partition_of(8, 0xFF),
-    );
-    commands(
-        b"SUCCESS, UPDATING",
-        partition_of(7, 0x00),
-        partition_of(8, 0x70),
-    );
-    commands(
-        b"TESTING, UPDATING",
-        partition_of(7, 0x10),
-        partition_of(8, 0x70),
-    );
-    commands(
-        b"UPDATING, NEW",
-        partition_of(7, 0x70),
-        partition_of(8, 0xFF),
-    );
-    commands(
-        b"TESTING, NEW, flag byte 7F",
-        partition_of(7, 0x10),
-        with_byte(partition_of(8, 0xFF), 766, 0x7F),
-    );
-    commands(
-        b"TESTING, NEW, flag byte F7",
-        partition_of(7, 0x10),
-        with_byte(partition_of(8, 0xFF), 766, 0xF7),
-    );
+// Arm, and confirm, from the same start.
+fn both(label: &[u8], boot_status: u8, update_status: u8, flags: u8) {
+    let boot = partition_of(7, boot_status);
+    let update = with_byte(partition_of(8, update_status), 766, flags);
+    print(label);
+    print(b"\n");
+    arm(boot, update);
+    confirm(boot, update);
 }
 
-fn main() {
+fn at_rest() {
+    both(b"SUCCESS, NEW", 0x00, 0xFF, 0xFF);
+    both(b"NEW, NEW", 0xFF, 0xFF, 0xFF);
+    both(b"TESTING, NEW", 0x10, 0xFF, 0xFF);
+}
+
+fn at_work() {
+    both(b"SUCCESS, UPDATING", 0x00, 0x70, 0xFF);
+    both(b"TESTING, UPDATING", 0x10, 0x70, 0xFF);
+    both(b"UPDATING, NEW", 0x70, 0xFF, 0xFF);
+    both(b"TESTING, NEW, flag byte 7F", 0x10, 0xFF, 0x7F);
+    both(b"TESTING, NEW, flag byte F7", 0x10, 0xFF, 0xF7);
+}
+
+fn exchanges() {
     let swap = [0x5Au8; SIZE];
     print(b"update\n");
     budgets(partition_of(7, 0x00), partition_of(8, 0x70), swap);
     print(b"fallback\n");
     budgets(partition_of(7, 0x10), partition_of(6, 0xFF), swap);
+}
+
+fn main() {
+    exchanges();
     turned_down();
-    refused();
-    all_commands();
+    bad_images();
+    statuses();
+    flags();
+    closing();
+    plain();
+    fallbacks();
+    at_rest();
+    at_work();
 }

@@ -2,45 +2,14 @@
 use mathlib.Core.Path.{_≡_, refl, sym, ap, ap₂, _∙_}
 use mathlib.Core.List.{List, [], _∷_, _++_, append-nil, append-assoc}
 use Prim.Native.Nat.{ℕ, _+_, _-_, _*_, _/_, _%_, _^_, _≤_, _<_}
-use native.Mathlib.Nat.{zero-add}
 use native.Mathlib.Omega.{arith}
 use lib.ListN.{length, take, drop, replicate, length-append, length-drop, length-replicate, replicate-append-replicate, take-append-drop, drop-of-length-le}
-use lib.Seq.{paste, take-at, drop-at, take-length, take-all, take-append-le, length-take-le, drop-drop}
+use lib.Seq.{paste, take-at, take-all}
 use Rattle.sha256.specs.declared.Hasher.{Hasher}
 use Rattle.fips180.specs.Sha256.{block, words, zeros, bigEndian, padding, compress, hash}
 use Rattle.sha256.specs.Parts.{settle, waiting, absorbOf}
+use Rattle.sha256_bytes.proofs.Blocks.{put-first}
 use Rattle.sha256.proofs.Concatenation.{same, length-waiting, concatenation, field-wrap}
-
-drop-zeros : (n k : ℕ) → k ≤ n → drop {A = ℕ} k (replicate n 0) ≡ replicate (n - k) 0
-drop-zeros n k h =
-    let e : n ≡ k + (n - k) = omega arith in
-    ap (λ x. drop {A = ℕ} k (replicate x 0)) e ∙ ap (drop k) (sym (replicate-append-replicate k (n - k) 0))
-    ∙ drop-at (replicate k 0) (replicate (n - k) 0) k (length-replicate k 0)
-
--- p over zeros, after o
-put-law : (o p : List ℕ) (k : ℕ) → length o ≡ k → k + length p ≤ 64
-    → paste (o ++ replicate (64 - k) 0) k p (length p) ≡ (o ++ p) ++ replicate (64 - (k + length p)) 0
-put-law o p k l h =
-    let z : 64 - k - length p ≡ 64 - (k + length p) = omega arith in
-    let d : drop (k + length p) (o ++ replicate (64 - k) 0) ≡ replicate (64 - (k + length p)) 0 =
-    sym (drop-drop (length p) k (o ++ replicate (64 - k) 0)) ∙ ap (drop (length p)) (drop-at o (replicate (64 - k) 0) k l)
-    ∙ drop-zeros (64 - k) (length p) (omega arith) ∙ ap (λ x. replicate x 0) z in
-    ap₂ (λ x y. x ++ y) (ap₂ (λ x y. x ++ y) (take-at o (replicate (64 - k) 0) k l) (take-length p)) d
-
--- p over zeros
-put-first : (p : List ℕ) → length p ≤ 64 → paste (replicate 64 0) 0 p (length p) ≡ p ++ replicate (64 - length p) 0
-put-first p h = put-law [] p 0 refl (omega arith) ∙ ap (λ x. p ++ replicate (64 - x) 0) (zero-add (length p))
-
--- the bytes that wait, the part's, and zeros
-pub join-law : (old p : List ℕ) (k : ℕ) {q t : List ℕ} → length old ≡ 64 → k + length p ≤ 64
-    → q ≡ paste (replicate 64 0) 0 (take k old) (length (take k old)) → t ≡ paste q k p (length p)
-    → t ≡ (take k (old ++ replicate 64 0) ++ p) ++ replicate (64 - (k + length p)) 0
-join-law old p k l h eq et =
-    let o : List ℕ = take k old in
-    let lo : length o ≡ k = length-take-le k old (omega arith) in
-    et ∙ ap (λ x. paste x k p (length p)) (eq ∙ put-first o (omega arith) ∙ ap (λ x. o ++ replicate (64 - x) 0) lo)
-    ∙ put-law o p k lo h
-    ∙ ap (λ x. (x ++ p) ++ replicate (64 - (k + length p)) 0) (sym (take-append-le k old (replicate 64 0) (omega arith)))
 
 -- a slice's elements from n on
 from : (p : List ℕ) (n : ℕ) → take (length p - n) (drop n p) ≡ drop n p
@@ -104,14 +73,6 @@ full-count d e a h f =
     omega arith
 
 -- ---- the padding
-
--- the length at the end of a block
-pub end-law : (b : List ℕ) (n : ℕ) {f r : List ℕ} → length b ≡ 64 → f ≡ bigEndian 8 n → r ≡ paste b 56 f (length f) → r ≡ take 56 b ++ bigEndian 8 n
-unfolding bigEndian
-end-law b n h ef er =
-    let e : List ℕ = bigEndian 8 n in
-    er ∙ ap (λ (x : List ℕ). paste b 56 x (length x)) ef ∙ ap (λ (x : List ℕ). (take 56 b ++ e) ++ x) (drop-of-length-le b {i = 64} (omega arith))
-    ∙ append-nil (take 56 b ++ e)
 
 -- zeros in two parts
 zeros-split : (a b n : ℕ) → n ≡ a + b → replicate {A = ℕ} n 0 ≡ replicate a 0 ++ replicate b 0

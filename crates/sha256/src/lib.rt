@@ -1,9 +1,8 @@
 // SHA-256: the digest of a message that lies in one place, or comes in parts. Numbers as 5.3.3 are sections of FIPS 180-4.
 ghost use mathlib.Core.Path.{_≡_};
-ghost use Prim.Native.Nat.{_+_, _-_, _*_, _/_, _%_, _≤_, _<_};
-ghost use mathlib.Core.List.{[], _∷_, _++_};
-ghost use lib.ListN.{length, take, replicate};
-ghost use lib.Seq.{paste};
+ghost use Prim.Native.Nat.{_+_, _%_, _≤_, _<_};
+ghost use mathlib.Core.List.{[]};
+ghost use lib.ListN.{length};
 ghost use Rattle.fips180.specs.Sha256 as fips;
 ghost use Rattle.sha256.specs.Parts as parts;
 
@@ -19,28 +18,6 @@ const H0: [u32; 8] = [
     0x5be0cd19,
 ];
 
-// The bytes of part over those of t, from at on.
-fn put(t: [u8; 64], at: usize, part: &[u8]) -> [u8; 64]
-    requires { ⌜ at + length (now part) ≤ 64 ⌝ }
-    ensures { λ r. ⌜ r ≡ paste t at (now (part .entry)) (length (now (part .entry))) ⌝ }
-{
-    let mut r = t;
-    let mut i: usize = 0;
-    while i < part.len() {
-        r[at + i] = part[i];
-        i += 1;
-    }
-    r
-}
-
-// The first fill bytes of old, those of part, and zeros.
-fn join(old: [u8; 64], fill: usize, part: &[u8]) -> [u8; 64]
-    requires { ⌜ fill + length (now part) ≤ 64 ⌝ }
-    ensures { λ r. ⌜ r ≡ (take fill (old ++ replicate 64 0) ++ now (part .entry)) ++ replicate (64 - (fill + length (now (part .entry)))) 0 ⌝ }
-{
-    put(put([0u8; 64], 0, &old[..fill]), fill, part)
-}
-
 // The smaller of a and b.
 fn least(a: usize, b: usize) -> usize
     ensures { λ r. ⌜ (r ≤ a) × (r ≤ b) × ((r < b) → r ≡ a) ⌝ }
@@ -49,40 +26,6 @@ fn least(a: usize, b: usize) -> usize
         return a;
     }
     b
-}
-
-// 5.1.1: the eight bytes of a length in bits.
-fn length_field(bits: u64) -> [u8; 8]
-    ensures { λ r. ⌜ r ≡ fips.bigEndian 8 bits ⌝ }
-{
-    let mut r = [0u8; 8];
-    let mut i: usize = 0;
-    while i < 8 {
-        r[i] = ((bits >> (56 - 8 * i)) % 256) as u8;
-        i += 1;
-    }
-    r
-}
-
-// 6.2.2: the bytes of the digest.
-fn bytes(h: [u32; 8]) -> [u8; 32]
-    ensures { λ r. ⌜ r ≡ fips.bytes h ⌝ }
-{
-    let mut r = [0u8; 32];
-    let mut i: usize = 0;
-    while i < 32 {
-        r[i] = ((h[i / 4] >> (24 - 8 * (i % 4))) % 256) as u8;
-        i += 1;
-    }
-    r
-}
-
-// 5.1.1: the last block of a padded message: the first 56 bytes of b, and the length in bits.
-fn last_block(b: [u8; 64], bits: u64) -> [u8; 64]
-    ensures { λ r. ⌜ r ≡ take 56 b ++ fips.bigEndian 8 bits ⌝ }
-{
-    let length = length_field(bits);
-    put(b, 56, &length)
 }
 
 // What has been absorbed of a message: the hash value after its whole blocks, the bytes after them, and how many bytes in all.
@@ -113,7 +56,7 @@ impl Hasher {
         let old = self.pending;
         let count = std::num::wrapping_add_u64(self.count, part.len() as u64);
         let fill = (self.count % 64) as usize;
-        let p = join(old, fill, part);
+        let p = sha256_bytes::join(old, fill, part);
         if fill + part.len() < 64 {
             return Hasher {
                 words: h,
@@ -137,7 +80,7 @@ impl Hasher {
         let from = part.len() - part.len() % 64;
         Hasher {
             words: sha256_block::hash(h, part),
-            pending: put([0u8; 64], 0, &part[from..]),
+            pending: sha256_bytes::put([0u8; 64], 0, &part[from..]),
             count: std::num::wrapping_add_u64(self.count, part.len() as u64),
         }
     }
@@ -164,14 +107,14 @@ impl Hasher {
         let bits = self.count << 3;
         let fill = (self.count % 64) as usize;
         let mark = [0x80u8; 1];
-        let p = join(old, fill, &mark);
+        let p = sha256_bytes::join(old, fill, &mark);
         if fill < 56 {
-            let b = last_block(p, bits);
-            return bytes(sha256_block::compress(h, &b));
+            let b = sha256_bytes::last_block(p, bits);
+            return sha256_bytes::bytes(sha256_block::compress(h, &b));
         }
         let s = sha256_block::compress(h, &p);
-        let b = last_block([0u8; 64], bits);
-        bytes(sha256_block::compress(s, &b))
+        let b = sha256_bytes::last_block([0u8; 64], bits);
+        sha256_bytes::bytes(sha256_block::compress(s, &b))
     }
 }
 

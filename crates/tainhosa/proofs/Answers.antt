@@ -27,11 +27,12 @@ use Rattle.loader.specs.Loader.{outcomeOf, answered}
 use Rattle.commands.specs.declared.CommandAnswer.{CommandAnswer}
 use Rattle.commands.specs.Numbers.{commandOf, commanded}
 use Rattle.tags.specs.Walk.{Item, walkAt, placeAfter}
-use Rattle.c_answers.specs.declared.Refused.{Refused}
-use Rattle.c_answers.specs.declared.Ended.{Ended}
-use Rattle.c_answers.specs.Numbers.{refusalOf, headerRefusal, imageRefusal, endedOf, reasonRefusal, countOf}
-use Rattle.c_answers.specs.Rows.{numbersOf, bytesOf, rowOf, powerRow}
-use Rattle.c_answers.proofs.Refusals.{bad-is}
+use Rattle.c_headers.specs.declared.Refused.{Refused}
+use Rattle.c_loading.specs.declared.Ended.{Ended}
+use Rattle.c_headers.specs.Numbers.{refusalOf, headerRefusal, imageRefusal}
+use Rattle.c_headers.specs.Rows.{numbersOf, bytesOf, rowOf}
+use Rattle.c_loading.specs.Outcomes.{endedOf, reasonRefusal, countOf, powerRow}
+use Rattle.c_headers.proofs.Refusals.{bad-is}
 use Rattle.tainhosa.specs.Headers.{Given, given, readAnswer, checkAnswer, Wrote, wrote, writeAnswer}
 use Rattle.tainhosa.specs.Walking.{Walked, tagAnswer}
 use Rattle.tainhosa.specs.Loading.{Loaded, poweredUp, powerUpAnswer, obeyed, commandAnswer}

@@ -9,8 +9,8 @@ use Rattle.header.specs.declared.Header.{Header}
 use Rattle.header.specs.Reading.{part, readHeader, valuesOf}
 use Rattle.header_writer.specs.Writing.{Write, writeHeader}
 use Rattle.image.specs.Check.{checkImage}
-use Rattle.c_answers.specs.Numbers.{refusalOf}
-use Rattle.c_answers.specs.Rows.{numbersOf, bytesOf}
+use Rattle.c_headers.specs.Numbers.{refusalOf}
+use Rattle.c_headers.specs.Rows.{numbersOf, bytesOf}
 
 -- The answer, and the caller's two buffers as the call returns.
 pub record Given : Type 0 where

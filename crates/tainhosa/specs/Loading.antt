@@ -9,8 +9,8 @@ use Rattle.flash.specs.Buffers.{Flash}
 use Rattle.exchange.specs.PowerUp.{PowerUp, powerUp}
 use Rattle.exchange.specs.Commands.{Command, arm, confirm}
 use Rattle.decision.specs.Numbers.{checkOf}
-use Rattle.c_answers.specs.Numbers.{refusalOf, endedOf, reasonRefusal, countOf}
-use Rattle.c_answers.specs.Rows.{powerRow}
+use Rattle.c_headers.specs.Numbers.{refusalOf}
+use Rattle.c_loading.specs.Outcomes.{endedOf, reasonRefusal, countOf, powerRow}
 
 -- ---- power-up
 

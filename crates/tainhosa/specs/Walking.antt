@@ -6,8 +6,8 @@ use lib.Dec.{eqb}
 use lib.ListN.{length}
 use Rattle.refusals.specs.Answer.{Answer}
 use Rattle.tags.specs.Walk.{Item, walkAt, placeAfter}
-use Rattle.c_answers.specs.Numbers.{refusalOf}
-use Rattle.c_answers.specs.Rows.{rowOf}
+use Rattle.c_headers.specs.Numbers.{refusalOf}
+use Rattle.c_headers.specs.Rows.{rowOf}
 
 -- The answer, and the caller's row as the call returns.
 pub record Walked : Type 0 where

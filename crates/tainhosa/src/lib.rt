@@ -34,7 +34,7 @@ pub extern "C" fn tainhosa_sha256(message: &[u8], digest: &mut [u8]) -> u32
         return WRONG_LENGTH;
     }
     let d = sha256::digest(message);
-    c_answers::put_bytes(digest, &d);
+    c_headers::put_bytes(digest, &d);
     0
 }
 
@@ -51,9 +51,9 @@ pub extern "C" fn tainhosa_read_header(input: &[u8], numbers: &mut [u64], bytes:
     }
     let read = header::read_header(input);
     let outcome = read.outcome;
-    let refused = c_answers::of_header(outcome);
+    let refused = c_headers::of_header(outcome);
     let h = read.header;
-    c_answers::put_header(numbers, bytes, refused.place, h);
+    c_headers::put_header(numbers, bytes, refused.place, h);
     refused.number
 }
 
@@ -76,9 +76,9 @@ pub extern "C" fn tainhosa_check_image(
     }
     let checked = image::check_image(sectors, size, partition);
     let outcome = checked.outcome;
-    let refused = c_answers::of_image(outcome);
+    let refused = c_headers::of_image(outcome);
     let h = checked.header;
-    c_answers::put_header(numbers, bytes, refused.place, h);
+    c_headers::put_header(numbers, bytes, refused.place, h);
     refused.number
 }
 
@@ -112,7 +112,7 @@ pub extern "C" fn tainhosa_write_header(
         hint,
     };
     let outcome = header_writer::write_header(out, v);
-    c_answers::of_write(outcome)
+    c_headers::of_write(outcome)
 }
 
 // The tag from a place of a header on, and the place to go on from.
@@ -125,9 +125,9 @@ pub extern "C" fn tainhosa_next_tag(input: &[u8], at: usize, tag: &mut [u64]) ->
     }
     let t = tags::walk_at(input, at);
     let next = tags::next_place(input, at);
-    let row = c_answers::tag_row(t, next as u64);
-    c_answers::put_numbers(tag, &row);
-    c_answers::of_tag(t)
+    let row = c_headers::tag_row(t, next as u64);
+    c_headers::put_numbers(tag, &row);
+    c_headers::of_tag(t)
 }
 
 // A power-up with at most `budget` operations.
@@ -149,8 +149,8 @@ pub extern "C" fn tainhosa_power_up(
     let a = loader::power_up(sectors, size, boot, update, swap, budget);
     let outcome = a.outcome;
     let reason = a.reason;
-    let ended = c_answers::of_outcome(outcome);
-    let why = c_answers::of_reason(reason);
+    let ended = c_loading::of_outcome(outcome);
+    let why = c_loading::of_reason(reason);
     let row = [
         ended.outcome,
         a.count,
@@ -159,7 +159,7 @@ pub extern "C" fn tainhosa_power_up(
         why.number as u64,
         why.place,
     ];
-    c_answers::put_numbers(answer, &row);
+    c_headers::put_numbers(answer, &row);
     ended.number
 }
 
@@ -179,9 +179,9 @@ pub extern "C" fn tainhosa_arm(
         return WRONG_LENGTH;
     }
     let a = commands::arm(sectors, size, boot, update, swap);
-    let row = [c_answers::count_of(a)];
-    c_answers::put_numbers(count, &row);
-    c_answers::of_command(a)
+    let row = [c_loading::count_of(a)];
+    c_headers::put_numbers(count, &row);
+    c_loading::of_command(a)
 }
 
 // Keeps the image that runs on test.
@@ -200,7 +200,7 @@ pub extern "C" fn tainhosa_confirm(
         return WRONG_LENGTH;
     }
     let a = commands::confirm(sectors, size, boot, update, swap);
-    let row = [c_answers::count_of(a)];
-    c_answers::put_numbers(count, &row);
-    c_answers::of_command(a)
+    let row = [c_loading::count_of(a)];
+    c_headers::put_numbers(count, &row);
+    c_loading::of_command(a)
 }

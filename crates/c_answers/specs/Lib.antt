@@ -1,3 +1,0 @@
--- The numbers and rows of a C caller's answers.
-pub mod Numbers
-pub mod Rows

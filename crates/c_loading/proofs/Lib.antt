@@ -1,0 +1,2 @@
+-- Laws of the numbers of a bad image.
+pub mod Inner

@@ -1,0 +1,2 @@
+-- Bytes laid over a block.
+pub mod Blocks
