@@ -1,4 +1,4 @@
--- Document 01, "The flash", in its order; its status bytes and sector flags are in the crate trailer.
+-- Document 01, "The flash", in its order. Its status bytes are in the crate status, its sector flags in the crate trailer.
 pub mod Sizes
 pub mod Sectors
 pub mod Buffers

@@ -15,7 +15,7 @@ placesWithin (suc most) n = elim (ltb n 10) [ true ↦ 1 | false ↦ suc (places
 abbrev pub places : ℕ → ℕ
 places n = placesWithin n n
 
--- A value's digits are the fewest that hold it, and at least one. Proved in proofs/.
+-- A value's digits are the fewest that hold it, and at least one.
 abbrev pub FewestDigits : Type 0
 FewestDigits = (n : ℕ) → Fewest 10 1 n (places n)
 
