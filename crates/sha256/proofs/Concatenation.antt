@@ -8,7 +8,7 @@ use lib.ListN.{length, take, drop, replicate, length-append, length-drop}
 use lib.Seq.{take-at, length-take-le, take-append-le, drop-append-le, drop-drop}
 use Rattle.sha256.specs.declared.Hasher.{Hasher}
 use Rattle.fips180.specs.Sha256.{block, words, zeros, bigEndian, padding, pad, H0, compress, hash, bytes, sha256}
-use Rattle.sha256.specs.Parts.{settle, stateOf, waiting, absorbOf, absorbAll, joined, finishOf}
+use Rattle.sha256.specs.Parts.{settle, stateOf, waiting, absorbOf, absorbAll, joined, finishOf, digestAfter}
 use Rattle.sha256.specs.Claims.{ConcatenationLaw, AbsorbLaw, FinishLaw, PartsLaw}
 
 pub cons : {x y : ℕ} {xs ys : List ℕ} → x ≡ y → xs ≡ ys → x ∷ xs ≡ y ∷ ys
@@ -63,6 +63,14 @@ settle-drop h b q n f =
     ∙ ap₂ (λ x y. x ++ replicate y 0) (drop-drop _ (64 * q) b ∙ ap (λ x. drop x b) g) k)
     refl
 
+-- the whole blocks of b may be hashed before p comes
+settle-front : (h b p : List ℕ) (n : ℕ) → settle (hash h b (length b / 64)) (drop (64 * (length b / 64)) b ++ p) n ≡ settle h (b ++ p) n
+settle-front h b p n =
+    let q : ℕ = length b / 64 in
+    let f : length b ≤ length (b ++ p) = rw length-append (omega arith) in
+    ap₂ (λ x y. settle x y n) (sym (hash-front h b p q (omega arith))) (sym (drop-append-le (64 * q) b p (omega arith)))
+    ∙ settle-drop h (b ++ p) q n (omega arith)
+
 -- a settled state absorbs p
 settle-more : (h b p : List ℕ) (n : ℕ) → n % 64 ≡ length b % 64 → absorbOf (settle h b n) p ≡ settle h (b ++ p) (n + length p)
 unfolding absorbOf waiting settle
@@ -71,13 +79,16 @@ settle-more h b p n e =
     let r : List ℕ = drop (64 * q) b in
     let z : List ℕ = replicate (64 - length b % 64) 0 in
     let l : length r ≡ n % 2 ^ 64 % 64 = length-drop (64 * q) b ∙ omega arith in
-    let f : length b ≤ length (b ++ p) = rw length-append (omega arith) in
-    let t : take (n % 2 ^ 64 % 64) ((r ++ z) ++ replicate 64 0) ++ p ≡ drop (64 * q) (b ++ p) =
-    ap (λ x. take (n % 2 ^ 64 % 64) x ++ p) (append-assoc r z (replicate 64 0))
-    ∙ ap (λ x. x ++ p) (take-at r (z ++ replicate 64 0) (n % 2 ^ 64 % 64) l) ∙ sym (drop-append-le (64 * q) b p (omega arith)) in
-    ap₂ (λ x y. settle x y (n % 2 ^ 64 + length p)) (sym (hash-front h b p q (omega arith))) t
-    ∙ settle-drop h (b ++ p) q _ (omega arith)
+    let t : take (n % 2 ^ 64 % 64) ((r ++ z) ++ replicate 64 0) ≡ r =
+    ap (take (n % 2 ^ 64 % 64)) (append-assoc r z (replicate 64 0)) ∙ take-at r (z ++ replicate 64 0) (n % 2 ^ 64 % 64) l in
+    ap (λ x. settle (hash h b q) (x ++ p) (n % 2 ^ 64 + length p)) t
+    ∙ settle-front h b p (n % 2 ^ 64 + length p)
     ∙ settle-count h (b ++ p) (n % 2 ^ 64 + length p) (n + length p) (omega arith)
+
+-- the message in one place
+pub digest-law : (m : List ℕ) → digestAfter (hash H0 m (length m / 64)) (drop (64 * (length m / 64)) m) (length m) ≡ sha256 m
+unfolding digestAfter sha256 pad settle
+digest-law m = ap (λ (d : Hasher). bytes (d .words)) (settle-front H0 m (padding (length m)) 0)
 
 -- how many bytes wait
 pub length-waiting : (d : Hasher) → length (waiting d) ≡ d .count % 64

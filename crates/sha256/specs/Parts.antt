@@ -40,3 +40,7 @@ joined (p ∷ ps) = p ++ joined ps
 -- The digest of what d has absorbed: d absorbs the padding, and its words are the digest.
 unfoldable pub finishOf : Hasher → List ℕ
 finishOf d = bytes (absorbOf d (padding (d .count)) .words)
+
+-- The digest of a message of n bytes whose whole blocks give the hash value h, and leave the bytes b: these are padded and hashed.
+unfoldable pub digestAfter : List ℕ → List ℕ → ℕ → List ℕ
+digestAfter h b n = bytes (hash h (b ++ padding n) (length (b ++ padding n) / 64))

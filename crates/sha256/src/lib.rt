@@ -1,8 +1,8 @@
 // SHA-256: the digest of a message that lies in one place, or comes in parts. Numbers as 5.3.3 are sections of FIPS 180-4.
 ghost use mathlib.Core.Path.{_≡_};
 ghost use Prim.Native.Nat.{_+_, _%_, _≤_, _<_};
-ghost use mathlib.Core.List.{[]};
-ghost use lib.ListN.{length};
+ghost use mathlib.Core.List.{[], _++_};
+ghost use lib.ListN.{length, take, replicate};
 ghost use Rattle.fips180.specs.Sha256 as fips;
 ghost use Rattle.sha256.specs.Parts as parts;
 
@@ -98,31 +98,50 @@ impl Hasher {
         d.absorb_blocks(&part[k..])
     }
 
-    // The digest of what has been absorbed. The padding of 5.1.1 ends the pending block, or takes one block more.
+    // The digest of what has been absorbed.
     pub fn finish(self) -> [u8; 32]
         ensures { λ r. ⌜ r ≡ parts.finishOf self ⌝ }
     {
         let h = self.words;
-        let old = self.pending;
-        let bits = self.count << 3;
-        let fill = (self.count % 64) as usize;
-        let mark = [0x80u8; 1];
-        let p = sha256_bytes::join(old, fill, &mark);
-        if fill < 56 {
-            let b = sha256_bytes::last_block(p, bits);
-            return sha256_bytes::bytes(sha256_block::compress(h, &b));
-        }
-        let s = sha256_block::compress(h, &p);
-        let b = sha256_bytes::last_block([0u8; 64], bits);
-        sha256_bytes::bytes(sha256_block::compress(s, &b))
+        let pending = self.pending;
+        digest_pending(h, pending, self.count)
     }
 }
 
-// The digest of a message that lies in one place.
-pub fn digest(bytes: &[u8]) -> [u8; 32]
-    ensures { λ r. ⌜ r ≡ fips.sha256 (now (bytes .entry)) ⌝ }
+// The digest of a message of `count` bytes, of the hash value after its whole blocks and the block that is pending.
+fn digest_pending(h: [u32; 8], pending: [u8; 64], count: u64) -> [u8; 32]
+    ensures { λ r. ⌜ r ≡ parts.digestAfter h (take (count % 64) (pending ++ replicate 64 0)) count ⌝ }
 {
-    let empty = Hasher::new();
-    let whole = empty.absorb_blocks(bytes);
-    whole.finish()
+    let fill = (count % 64) as usize;
+    digest_after(h, &pending[..fill], count)
+}
+
+// The digest of a message of `count` bytes, of the hash value after its whole blocks and the bytes that are left. The padding of
+// 5.1.1 ends their block, or takes one block more.
+fn digest_after(h: [u32; 8], rest: &[u8], count: u64) -> [u8; 32]
+    requires { ⌜ length (now rest) ≡ count % 64 ⌝ }
+    ensures { λ r. ⌜ r ≡ parts.digestAfter h (now (rest .entry)) count ⌝ }
+{
+    let n = rest.len();
+    let bits = count << 3;
+    let mut b = [0u8; 64];
+    bytes::copy(rest, &mut b);
+    b[n] = 0x80;
+    if n < 56 {
+        sha256_bytes::put_length(&mut b, bits);
+        return sha256_bytes::bytes(sha256_block::compress(h, &b));
+    }
+    let s = sha256_block::compress(h, &b);
+    b = [0u8; 64];
+    sha256_bytes::put_length(&mut b, bits);
+    sha256_bytes::bytes(sha256_block::compress(s, &b))
+}
+
+// The digest of a message that lies in one place.
+pub fn digest(message: &[u8]) -> [u8; 32]
+    ensures { λ r. ⌜ r ≡ fips.sha256 (now (message .entry)) ⌝ }
+{
+    let n = message.len();
+    let from = n - n % 64;
+    digest_after(sha256_block::hash(H0, message), &message[from..], n as u64)
 }

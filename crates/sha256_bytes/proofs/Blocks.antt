@@ -8,7 +8,8 @@ use lib.ListN.{length, take, drop, replicate, length-replicate, replicate-append
 use lib.Seq.{paste, take-at, drop-at, take-length, take-append-le, length-take-le, drop-drop}
 use Rattle.fips180.specs.Sha256.{bigEndian}
 
-drop-zeros : (n k : ℕ) → k ≤ n → drop {A = ℕ} k (replicate n 0) ≡ replicate (n - k) 0
+-- zeros but for the first k
+pub drop-zeros : (n k : ℕ) → k ≤ n → drop {A = ℕ} k (replicate n 0) ≡ replicate (n - k) 0
 drop-zeros n k h =
     let e : n ≡ k + (n - k) = omega arith in
     ap (λ x. drop {A = ℕ} k (replicate x 0)) e ∙ ap (drop k) (sym (replicate-append-replicate k (n - k) 0))
@@ -38,11 +39,3 @@ join-law old p k l h eq et =
     et ∙ ap (λ x. paste x k p (length p)) (eq ∙ put-first o (omega arith) ∙ ap (λ x. o ++ replicate (64 - x) 0) lo)
     ∙ put-law o p k lo h
     ∙ ap (λ x. (x ++ p) ++ replicate (64 - (k + length p)) 0) (sym (take-append-le k old (replicate 64 0) (omega arith)))
-
--- the length at the end of a block
-pub end-law : (b : List ℕ) (n : ℕ) {f r : List ℕ} → length b ≡ 64 → f ≡ bigEndian 8 n → r ≡ paste b 56 f (length f) → r ≡ take 56 b ++ bigEndian 8 n
-unfolding bigEndian
-end-law b n h ef er =
-    let e : List ℕ = bigEndian 8 n in
-    er ∙ ap (λ (x : List ℕ). paste b 56 x (length x)) ef ∙ ap (λ (x : List ℕ). (take 56 b ++ e) ++ x) (drop-of-length-le b {i = 64} (omega arith))
-    ∙ append-nil (take 56 b ++ e)

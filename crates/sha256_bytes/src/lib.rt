@@ -28,17 +28,16 @@ pub fn join(old: [u8; 64], fill: usize, part: &[u8]) -> [u8; 64]
     put(put([0u8; 64], 0, &old[..fill]), fill, part)
 }
 
-// 5.1.1: the eight bytes of a length in bits.
-fn length_field(bits: u64) -> [u8; 8]
-    ensures { λ r. ⌜ r ≡ fips.bigEndian 8 bits ⌝ }
+// 5.1.1: the length in bits, over the last eight bytes of a block.
+pub fn put_length(b: &mut [u8], bits: u64)
+    requires { ⌜ length (now b) ≡ 64 ⌝ }
+    ensures { λ _. ⌜ now (b .exit) ≡ take 56 (now (b .entry)) ++ fips.bigEndian 8 bits ⌝ }
 {
-    let mut r = [0u8; 8];
     let mut i: usize = 0;
     while i < 8 {
-        r[i] = ((bits >> (56 - 8 * i)) % 256) as u8;
+        b[56 + i] = ((bits >> (56 - 8 * i)) % 256) as u8;
         i += 1;
     }
-    r
 }
 
 // 6.2.2: the bytes of the digest.
@@ -52,12 +51,4 @@ pub fn bytes(h: [u32; 8]) -> [u8; 32]
         i += 1;
     }
     r
-}
-
-// 5.1.1: the last block of a padded message: the first 56 bytes of b, and the length in bits.
-pub fn last_block(b: [u8; 64], bits: u64) -> [u8; 64]
-    ensures { λ r. ⌜ r ≡ take 56 b ++ fips.bigEndian 8 bits ⌝ }
-{
-    let length = length_field(bits);
-    put(b, 56, &length)
 }
