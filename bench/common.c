@@ -4,7 +4,11 @@
 
 #include <stdio.h>
 #include <stdlib.h>
+#include <string.h>
 #include <time.h>
+
+#include "plain.h"
+#include "tainhosa.h"
 
 enum { ROUNDS = 5, SIDES_MAX = 4 };
 
@@ -80,5 +84,20 @@ void fill(uint8_t *p, size_t length, uint32_t seed)
     for (size_t i = 0; i < length; i++) {
         seed = seed * 1664525u + 1013904223u;
         p[i] = (uint8_t)(seed >> 24);
+    }
+}
+
+void make_image(uint8_t *partition, size_t length, size_t sector_size, uint32_t version)
+{
+    const size_t firmware = length - sector_size - TAINHOSA_HEADER_LENGTH;
+    uint8_t bytes[TAINHOSA_HEADER_BYTES];
+    uint64_t place;
+    fill(bytes, sizeof bytes, version);
+    memset(partition, 0xFF, length);
+    fill(partition + TAINHOSA_HEADER_LENGTH, firmware, version + 10);
+    plain_sha256(partition + TAINHOSA_HEADER_LENGTH, firmware, bytes + TAINHOSA_DIGEST_AT);
+    if (tainhosa_write_header(partition, length, (uint32_t)firmware, version, 1700000000, 512, true, bytes, sizeof bytes, &place, 1) !=
+        TAINHOSA_OK) {
+        fail("tainhosa_write_header refused");
     }
 }

@@ -28,4 +28,7 @@ void *room_for(size_t length);
 /* Bytes that look like no pattern. */
 void fill(uint8_t *p, size_t length, uint32_t seed);
 
+/* An image whose firmware fills the sectors but the last of a partition; the trailer sector is erased. */
+void make_image(uint8_t *partition, size_t length, size_t sector_size, uint32_t version);
+
 #endif

@@ -58,8 +58,9 @@ static void run_plain(void)
 static void write_header(bool has_hint)
 {
     uint8_t bytes[128];
+    uint64_t place;
     fill(bytes, sizeof bytes, 2);
-    if (tainhosa_write_header(header, sizeof header, 77777, 5, 1700000000, 512, has_hint, bytes, 128) != TAINHOSA_OK) {
+    if (tainhosa_write_header(header, sizeof header, 77777, 5, 1700000000, 512, has_hint, bytes, 128, &place, 1) != TAINHOSA_OK) {
         fail("tainhosa_write_header refused");
     }
 }
@@ -77,10 +78,6 @@ static void pad(size_t n)
  */
 static void compare_many(void)
 {
-    static const uint16_t types[] = {
-        TAINHOSA_TYPE_VERSION,   TAINHOSA_TYPE_TIMESTAMP, TAINHOSA_TYPE_DIGEST,
-        TAINHOSA_TYPE_SIGNATURE, TAINHOSA_TYPE_AUTH_TYPE, TAINHOSA_TYPE_HINT,
-    };
     uint8_t whole[TAINHOSA_HEADER_LENGTH];
     memcpy(whole, header, sizeof header);
     for (size_t length = 0; length <= sizeof header; length++) {
@@ -94,9 +91,9 @@ static void compare_many(void)
         header[i] = whole[i];
     }
     for (size_t i = 0; i + 1 < sizeof header; i++) {
-        for (size_t t = 0; t < sizeof types / sizeof types[0]; t++) {
-            header[i] = (uint8_t)(types[t] & 0xFF);
-            header[i + 1] = (uint8_t)(types[t] >> 8);
+        for (size_t t = 0; t < PLAIN_ROWS; t++) {
+            header[i] = (uint8_t)(plain_types[t] & 0xFF);
+            header[i + 1] = (uint8_t)(plain_types[t] >> 8);
             compare(sizeof header);
         }
         memcpy(header, whole, sizeof header);

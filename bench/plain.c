@@ -116,14 +116,17 @@ static uint64_t le64(const uint8_t *p)
     return le32(p) | (uint64_t)le32(p + 4) << 32;
 }
 
-enum { VERSION, TIMESTAMP, DIGEST, SIGNATURE, AUTH_TYPE, HINT, ROWS };
+enum { VERSION, TIMESTAMP, DIGEST, SIGNATURE, AUTH_TYPE, HINT, ROWS = PLAIN_ROWS };
 
-static const uint16_t types[ROWS] = {
+const uint16_t plain_types[ROWS] = {
     TAINHOSA_TYPE_VERSION,   TAINHOSA_TYPE_TIMESTAMP, TAINHOSA_TYPE_DIGEST,
     TAINHOSA_TYPE_SIGNATURE, TAINHOSA_TYPE_AUTH_TYPE, TAINHOSA_TYPE_HINT,
 };
 
-static const uint8_t lengths[ROWS] = {4, 8, 32, 64, 2, 32};
+static const uint8_t lengths[ROWS] = {
+    TAINHOSA_VERSION_BYTES,   TAINHOSA_TIMESTAMP_BYTES, TAINHOSA_DIGEST_BYTES,
+    TAINHOSA_SIGNATURE_BYTES, TAINHOSA_AUTH_TYPE_BYTES, TAINHOSA_HINT_BYTES,
+};
 
 static int row_of(uint32_t type)
 {
@@ -153,17 +156,17 @@ uint32_t plain_read_header(const uint8_t *input, size_t len, uint64_t numbers[6]
     if (len < TAINHOSA_HEADER_LENGTH) {
         return TAINHOSA_SHORT_HEADER;
     }
-    if (memcmp(input, "CERT", 4) != 0) {
+    if (le32(input + TAINHOSA_MAGIC_AT) != TAINHOSA_MAGIC) {
         return TAINHOSA_WRONG_MAGIC;
     }
-    if (le32(input + 4) == 0) {
-        return refuse(numbers, TAINHOSA_WRONG_SIZE, 4);
+    if (le32(input + TAINHOSA_FIRMWARE_SIZE_AT) == 0) {
+        return refuse(numbers, TAINHOSA_WRONG_SIZE, TAINHOSA_FIRMWARE_SIZE_AT);
     }
     for (;;) {
         if (p == TAINHOSA_HEADER_LENGTH) {
             return refuse(numbers, TAINHOSA_NO_END, p);
         }
-        if (input[p] == 0xFF) {
+        if (input[p] == TAINHOSA_PADDING) {
             p++;
             continue;
         }
@@ -171,7 +174,7 @@ uint32_t plain_read_header(const uint8_t *input, size_t len, uint64_t numbers[6]
             return refuse(numbers, TAINHOSA_TAG_DOES_NOT_FIT, p);
         }
         uint32_t type = le16(input + p);
-        if (type == 0) {
+        if (type == TAINHOSA_TYPE_END) {
             break;
         }
         if (p + 4 > TAINHOSA_HEADER_LENGTH) {
@@ -195,10 +198,10 @@ uint32_t plain_read_header(const uint8_t *input, size_t len, uint64_t numbers[6]
     }
     for (int row = 0; row < HINT; row++) {
         if (value[row] == NULL) {
-            return refuse(numbers, TAINHOSA_TAG_MISSING, types[row]);
+            return refuse(numbers, TAINHOSA_TAG_MISSING, plain_types[row]);
         }
     }
-    numbers[TAINHOSA_HEADER_SIZE] = le32(input + 4);
+    numbers[TAINHOSA_HEADER_SIZE] = le32(input + TAINHOSA_FIRMWARE_SIZE_AT);
     numbers[TAINHOSA_HEADER_VERSION] = le32(value[VERSION]);
     numbers[TAINHOSA_HEADER_TIMESTAMP] = le64(value[TIMESTAMP]);
     numbers[TAINHOSA_HEADER_AUTH_TYPE] = le16(value[AUTH_TYPE]);

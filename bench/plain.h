@@ -8,6 +8,10 @@
 /* SHA-256, as FIPS 180-4 writes it. */
 void plain_sha256(const uint8_t *message, size_t len, uint8_t digest[32]);
 
+/* The types of the table of tags, in its order. */
+enum { PLAIN_ROWS = 6 };
+extern const uint16_t plain_types[PLAIN_ROWS];
+
 /* A header, with the checks, the answers and the two buffers of tainhosa_read_header. */
 uint32_t plain_read_header(const uint8_t *input, size_t len, uint64_t numbers[6], uint8_t bytes[128]);
 

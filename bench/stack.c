@@ -1,6 +1,7 @@
 /*
  * The stack that each call takes: it runs on a stack of its own that was painted before, and the painted bytes that are left are
- * counted. What a function that does nothing takes in the same way is subtracted. Of a call with several inputs the most counts:
+ * counted. What a function that does nothing takes in the same way is subtracted; arguments that lie on the stack are not, so a call
+ * of many arguments counts some bytes of its caller. Of a call with several inputs the most counts:
  * once of the inputs whose headers are as tainhosa_write_header makes them, and once of those with a header of padding, which makes
  * the longest walk.
  */
@@ -57,7 +58,7 @@ static void read_header(void)
 
 static void write_header(void)
 {
-    answer = tainhosa_write_header(header, sizeof header, LENGTH - SIZE - 256, 7, 1700000000, 512, true, bytes, 128);
+    answer = tainhosa_write_header(header, sizeof header, LENGTH - SIZE - 256, 7, 1700000000, 512, true, bytes, 128, numbers, 1);
 }
 
 static void next_tag(void)
@@ -133,19 +134,6 @@ static void expect_outcome(uint64_t outcome)
     }
 }
 
-static void make_image(uint8_t *partition, uint32_t version)
-{
-    const size_t firmware = LENGTH - SIZE - TAINHOSA_HEADER_LENGTH;
-    uint8_t values[128];
-    fill(values, sizeof values, version);
-    memset(partition, 0xFF, LENGTH);
-    fill(partition + TAINHOSA_HEADER_LENGTH, firmware, version);
-    if (tainhosa_sha256(partition + TAINHOSA_HEADER_LENGTH, firmware, values, 32) != TAINHOSA_OK ||
-        tainhosa_write_header(partition, LENGTH, (uint32_t)firmware, version, 1700000000, 512, true, values, 128) != TAINHOSA_OK) {
-        fail("an image was not made");
-    }
-}
-
 static void pad_header(uint8_t *p)
 {
     memset(p + TAINHOSA_FIRST_TAG, 0xFF, TAINHOSA_HEADER_LENGTH - TAINHOSA_FIRST_TAG);
@@ -153,8 +141,8 @@ static void pad_header(uint8_t *p)
 
 int main(void)
 {
-    make_image(boot, 1);
-    make_image(update, 2);
+    make_image(boot, LENGTH, SIZE, 1);
+    make_image(update, LENGTH, SIZE, 2);
     boot[STATUS] = TAINHOSA_STATUS_SUCCESS;
     memset(swap, 0xFF, SIZE);
 
@@ -173,12 +161,12 @@ int main(void)
     expect_outcome(TAINHOSA_RUN_ON_TEST);
     take(POWER_UP, TAINHOSA_OK);
     expect_outcome(TAINHOSA_RUN_FALLEN_BACK);
-    make_image(update, 2);
+    make_image(update, LENGTH, SIZE, 2);
     take(ARM, TAINHOSA_OK);
     take(POWER_UP, TAINHOSA_OK);
     expect_outcome(TAINHOSA_RUN_ON_TEST);
     take(CONFIRM, TAINHOSA_OK);
-    make_image(update, 1);
+    make_image(update, LENGTH, SIZE, 1);
     take(ARM, TAINHOSA_OK);
     take(POWER_UP, TAINHOSA_OK);
     expect_outcome(TAINHOSA_RUN);
@@ -193,7 +181,7 @@ int main(void)
     pad_header(header);
     take(READ_HEADER, TAINHOSA_NO_END);
     take(NEXT_TAG, TAINHOSA_NO_END);
-    make_image(update, 3);
+    make_image(update, LENGTH, SIZE, 3);
     pad_header(update);
     if (tainhosa_arm(SECTORS, SIZE, boot, LENGTH, update, LENGTH, swap, SIZE, numbers, 1) != TAINHOSA_OK) {
         fail("tainhosa_arm refused");

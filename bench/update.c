@@ -39,13 +39,13 @@ static int plain_update(void)
         uint8_t *u = update + i * size;
         plain_erase(swap, size);
         plain_copy(swap, u, size);
-        write_flag(i, 0x7);
+        write_flag(i, TAINHOSA_FLAG_SAVED);
         plain_erase(u, size);
         plain_copy(u, b, size);
-        write_flag(i, 0x3);
+        write_flag(i, TAINHOSA_FLAG_MOVED);
         plain_erase(b, size);
         plain_copy(b, swap, size);
-        write_flag(i, 0x0);
+        write_flag(i, TAINHOSA_FLAG_EXCHANGED);
     }
     if (boot[length - 1] == TAINHOSA_STATUS_SUCCESS) {
         plain_erase(boot + trailer, size);
@@ -73,19 +73,6 @@ static void run_ours(void)
 }
 
 /* ---- Both */
-
-static void make_image(uint8_t *partition, uint32_t version)
-{
-    const size_t firmware = length - size - TAINHOSA_HEADER_LENGTH;
-    uint8_t bytes[128];
-    fill(bytes, sizeof bytes, version);
-    memset(partition, 0xFF, length);
-    fill(partition + TAINHOSA_HEADER_LENGTH, firmware, version + 10);
-    plain_sha256(partition + TAINHOSA_HEADER_LENGTH, firmware, bytes + TAINHOSA_DIGEST_AT);
-    if (tainhosa_write_header(partition, length, (uint32_t)firmware, version, 1700000000, 512, true, bytes, 128) != TAINHOSA_OK) {
-        fail("tainhosa_write_header refused");
-    }
-}
 
 static void restore(void)
 {
@@ -126,8 +113,8 @@ static void measure(size_t n, size_t s, bool each)
     boot = room_for(length);
     update = room_for(length);
     swap = room_for(size);
-    make_image(boot, 1);
-    make_image(update, 2);
+    make_image(boot, length, size, 1);
+    make_image(update, length, size, 2);
     memset(swap, 0xFF, size);
     boot[length - 1] = TAINHOSA_STATUS_SUCCESS;
     if (tainhosa_arm(n, s, boot, length, update, length, swap, size, &count, 1) != TAINHOSA_OK) {

@@ -5,7 +5,9 @@
  * a buffer that a call writes overlaps no other buffer of that call. Any bytes, numbers and lengths may be passed.
  *
  * Every call answers TAINHOSA_OK or the number of a refusal. Each call names below the length of the buffers that it fills
- * with its answer. Where one has another length, the answer is TAINHOSA_OUTSIDE_RULES and no buffer changes.
+ * with its answer. Where one has another length, the answer is TAINHOSA_OUTSIDE_RULES and no buffer changes; that is the first
+ * thing that a call looks at. The refusals of a call are named in the order in which it comes to them. A refusal has a place, in
+ * the buffer that the call says; where none is named, here or at the call, the place is 0.
  */
 #ifndef TAINHOSA_H
 #define TAINHOSA_H
@@ -30,8 +32,8 @@ extern "C" {
 #define TAINHOSA_NO_END 7             /* at 256 */
 #define TAINHOSA_TAG_MISSING 8        /* in the place of a place: the type that is missing */
 #define TAINHOSA_WRONG_DIGEST 9       /* at 256 */
-#define TAINHOSA_STATUS_NOT_ALLOWED 10
-#define TAINHOSA_FLAGS_MALFORMED 11
+#define TAINHOSA_STATUS_NOT_ALLOWED 10 /* a status byte that BOOT or UPDATE cannot hold */
+#define TAINHOSA_FLAGS_MALFORMED 11   /* sector flags that no exchange leaves */
 #define TAINHOSA_BAD_BOOT 12          /* with the image's own number and place */
 #define TAINHOSA_NO_FALLBACK 13       /* with the image's own number and place */
 #define TAINHOSA_WRONG_TIME 14        /* arm or confirm when it is not allowed */
@@ -41,15 +43,25 @@ extern "C" {
 /* ---- The header: 256 bytes, then the firmware */
 
 #define TAINHOSA_HEADER_LENGTH 256
+#define TAINHOSA_MAGIC 0x54524543     /* bytes 0 to 3, low byte first: 43 45 52 54 */
+#define TAINHOSA_MAGIC_AT 0
+#define TAINHOSA_FIRMWARE_SIZE_AT 4   /* the firmware's size in bytes, bytes 4 to 7 */
 #define TAINHOSA_FIRST_TAG 8
+#define TAINHOSA_PADDING 0xFF         /* a byte between tags */
 
-/* The types of its tags. */
+/* The types of its tags. A tag is its type and its length, two bytes each, low byte first, and then its value. */
+#define TAINHOSA_TYPE_END 0x0000      /* the type alone ends the header */
 #define TAINHOSA_TYPE_VERSION 0x0001
 #define TAINHOSA_TYPE_TIMESTAMP 0x0002
 #define TAINHOSA_TYPE_DIGEST 0x0003
 #define TAINHOSA_TYPE_SIGNATURE 0x0020
 #define TAINHOSA_TYPE_AUTH_TYPE 0x0030
-#define TAINHOSA_TYPE_HINT 0x1000
+#define TAINHOSA_TYPE_HINT 0x1000     /* the only one that may be missing */
+
+/* The lengths of the values that are numbers, low byte first; those of the others stand below. */
+#define TAINHOSA_VERSION_BYTES 4
+#define TAINHOSA_TIMESTAMP_BYTES 8
+#define TAINHOSA_AUTH_TYPE_BYTES 2
 
 /* A header's numbers: a row of 6, the first of them the place of a refusal, 0 where there is none. */
 #define TAINHOSA_HEADER_NUMBERS 6
@@ -78,15 +90,21 @@ uint32_t tainhosa_read_header(const uint8_t *input, size_t input_length,
                               uint64_t *numbers, size_t numbers_length,
                               uint8_t *bytes, size_t bytes_length);
 
+/* What the writer answers: one number, the place of a refusal. */
+#define TAINHOSA_WRITE_NUMBERS 1
+#define TAINHOSA_WRITE_PLACE 0
+
 /*
  * Writes a header into the first 256 bytes of out, and leaves the bytes behind them. The bytes (128) hold the digest, the
  * signature and the hint; without a hint the last 32 are not used.
- * OK: the header stands in out, and reads back to these values.
- * Refused with 1 (bytes are not 128), then 16, then 3 (size 0 only): out stays as it was.
+ * OK: the header stands in out, and reads back to these values; place[0] is 0.
+ * Refused with 1 (bytes are not 128, or place is not 1 number): nothing changes. With 16 or 3 (size 0 only): out stays as it was,
+ * and place[0] is the place.
  */
 uint32_t tainhosa_write_header(uint8_t *out, size_t out_length,
                                uint32_t size, uint32_t version, uint64_t timestamp, uint16_t auth_type, bool has_hint,
-                               const uint8_t *bytes, size_t bytes_length);
+                               const uint8_t *bytes, size_t bytes_length,
+                               uint64_t *place, size_t place_length);
 
 /* A tag: a row of 6. */
 #define TAINHOSA_TAG_NUMBERS 6
@@ -101,7 +119,8 @@ uint32_t tainhosa_write_header(uint8_t *out, size_t out_length,
  * The first tag of the header in the input from the place `at` on, whatever its type; padding is gone over. Begin at
  * TAINHOSA_FIRST_TAG, and go on at the place given back. Magic, size, and the lengths that the types ask for are not looked at.
  * OK: tag (6) holds the tag, or says that the end was found.
- * Refused with 16, 4 or 7: tag holds the place of the refusal and the place that was passed, all else is 0.
+ * Refused with 16 (the input is below 256 bytes), 7 (`at` is 256 or above, or only padding is left) or 4: tag holds the place of
+ * the refusal and the place that was passed, all else is 0. Asked again there, the end and a refusal come again.
  */
 uint32_t tainhosa_next_tag(const uint8_t *input, size_t input_length, size_t at,
                            uint64_t *tag, size_t tag_length);
@@ -122,6 +141,15 @@ uint32_t tainhosa_next_tag(const uint8_t *input, size_t input_length, size_t at,
 #define TAINHOSA_STATUS_UPDATING 0x70 /* UPDATE only */
 #define TAINHOSA_STATUS_TESTING 0x10  /* BOOT only, as SUCCESS */
 #define TAINHOSA_STATUS_SUCCESS 0x00
+
+/*
+ * The flag of firmware sector i, in UPDATE's trailer: half of the byte at sectors * size - 2 - i / 2, the low half for an even i.
+ * Flags are well formed if they are, from sector 0 on, some 0, then at most one 7 or 3, then F only.
+ */
+#define TAINHOSA_FLAG_UNTOUCHED 0xF
+#define TAINHOSA_FLAG_SAVED 0x7       /* UPDATE's sector is in SWAP */
+#define TAINHOSA_FLAG_MOVED 0x3       /* and BOOT's is in UPDATE */
+#define TAINHOSA_FLAG_EXCHANGED 0x0   /* and UPDATE's is in BOOT */
 
 /*
  * Checks the image of a partition: its header, that the sectors but the last hold its firmware, and the firmware's digest.
@@ -151,13 +179,22 @@ uint32_t tainhosa_check_image(size_t sectors, size_t size,
 #define TAINHOSA_RUN_FALLEN_BACK 4    /* the image before the update stands in BOOT again */
 
 /*
- * What is to be done when power comes on: an update that was armed, a fallback from one that was not confirmed, or nothing; with
- * at most `budget` erases, copies and writes. Where power is lost in between, call it again: it goes on from what the flash shows.
- * OK: answer (6) holds the outcome, which is not TAINHOSA_REFUSED; boot, update and swap are as the operations leave them.
- * Refused with 1, 10, 11, 12 or 13: answer holds the outcome TAINHOSA_REFUSED, and of 12 and 13 the bad image's own number and
- * place; the flash stays as it was and the count is 0. Only 12 can come after operations: they stay done and are counted,
- * and beside 12 a reason may stand, as beside any outcome of an update that was turned down.
- * With an answer buffer of another length, 1, the flash is not touched.
+ * What is to be done when power comes on, with at most `budget` erases, copies and writes:
+ *   UPDATE is UPDATING: the update. With all flags F, UPDATE is checked, then BOOT; an update whose image is bad, or whose version
+ *   is not greater than BOOT's, is turned down. With other flags the exchange goes on, and no image is checked before its end.
+ *   BOOT is TESTING and UPDATE is NEW: the way back to the image in UPDATE, which with all flags F is checked.
+ *   Else nothing; the flags are not read.
+ * At the end BOOT is checked, but not when the budget is used up before. Where power is lost in between, call it again: it goes on
+ * from what the flash shows.
+ * OK: answer (6) holds the outcome, the count, and the reason of a turning down:
+ *   TAINHOSA_RUN: nothing was done; or the update was turned down, and UPDATE's trailer sector is erased, so UPDATE is NEW.
+ *   TAINHOSA_RUN_ON_TEST: the firmware sectors of BOOT and UPDATE are exchanged, BOOT is TESTING, UPDATE's trailer sector is erased.
+ *   TAINHOSA_RUN_FALLEN_BACK: they are exchanged back, BOOT is SUCCESS, UPDATE is NEW and its flags are all 0.
+ *   TAINHOSA_CUT: the flash is as that many operations leave it, and more are to be done.
+ * Refused with 1; 10; 11 (flags that are not well formed, where they are read; with both UPDATING and TESTING also any but all 0);
+ * 13 (no good image to fall back to); 12 (bad image in BOOT): answer holds the outcome TAINHOSA_REFUSED, and of 12 and 13 the bad
+ * image's own number and place. The flash stays as it was and the count is 0; only 12 can come after operations: they stay done and
+ * are counted, and beside it the reason of a turning down may stand.
  */
 uint32_t tainhosa_power_up(size_t sectors, size_t size,
                            uint8_t *boot, size_t boot_length,
@@ -166,8 +203,9 @@ uint32_t tainhosa_power_up(size_t sectors, size_t size,
                            uint64_t budget,
                            uint64_t *answer, size_t answer_length);
 
-/* The answer of arm and confirm: one number, the operations done; 0 beside a refusal. */
+/* The answer of arm and confirm: one number, the operations done; 0 beside a refusal. The place of each refusal is 0. */
 #define TAINHOSA_COMMAND_NUMBERS 1
+#define TAINHOSA_COMMAND_COUNT 0
 
 /*
  * Arms the update that stands in UPDATE, for the next power-up to take or turn down: UPDATE has to be NEW, and BOOT NEW or SUCCESS.

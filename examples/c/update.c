@@ -19,11 +19,12 @@ static void expect_ok(const char *call, uint32_t answer) {
 /* An image of as many firmware bytes, all the same, in an erased partition. */
 static void make_image(const char *name, uint8_t *partition, uint32_t version, int fill, uint32_t size) {
     uint8_t bytes[TAINHOSA_HEADER_BYTES] = {0};
+    uint64_t place;
     uint8_t *firmware = partition + TAINHOSA_HEADER_LENGTH;
     memset(partition, 0xFF, PARTITION);
     memset(firmware, fill, size);
     expect_ok("sha256", tainhosa_sha256(firmware, size, bytes + TAINHOSA_DIGEST_AT, TAINHOSA_DIGEST_BYTES));
-    expect_ok("write_header", tainhosa_write_header(partition, PARTITION, size, version, 1700000000, 512, false, bytes, sizeof bytes));
+    expect_ok("write_header", tainhosa_write_header(partition, PARTITION, size, version, 1700000000, 512, false, bytes, sizeof bytes, &place, 1));
     printf("made version %u in %s\n", (unsigned)version, name);
 }
 

@@ -56,13 +56,13 @@ pub fn of_image(o: ImageOutcome) -> Refused
     }
 }
 
-pub fn of_write(o: WriteOutcome) -> u32
-    ensures { λ r. ⌜ r ≡ refusalOf (writer.answerOf o) .number ⌝ }
+pub fn of_write(o: WriteOutcome) -> Refused
+    ensures { λ r. ⌜ r ≡ refusalOf (writer.answerOf o) ⌝ }
 {
     match o {
-        WriteOutcome::Written => 0,
-        WriteOutcome::TooShort => 16,
-        WriteOutcome::ZeroSize => 3,
+        WriteOutcome::Written => refuse(0, 0),
+        WriteOutcome::TooShort => refuse(16, 0),
+        WriteOutcome::ZeroSize => refuse(3, 4),
     }
 }
 

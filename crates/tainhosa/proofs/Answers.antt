@@ -2,7 +2,8 @@
 use mathlib.Core.Path.{_≡_, refl, sym, ap, ap₂, _∙_}
 use Prim.Native.Nat.{ℕ}
 use mathlib.Core.List.{List, [], _∷_}
-use lib.ListN.{length}
+use lib.ListN.{length, set}
+use native.Mathlib.Omega.{arith}
 use borrow.Author.Tests.{eq-eqb}
 use Rattle.refusals.specs.Answer.{Answer}
 use Rattle.flash.specs.Sizes.{geometry}
@@ -33,7 +34,7 @@ use Rattle.c_headers.specs.Numbers.{refusalOf, headerRefusal, imageRefusal}
 use Rattle.c_headers.specs.Rows.{numbersOf, bytesOf, rowOf}
 use Rattle.c_loading.specs.Outcomes.{endedOf, reasonRefusal, countOf, powerRow}
 use Rattle.c_headers.proofs.Refusals.{bad-is}
-use Rattle.tainhosa.specs.Headers.{Given, given, readAnswer, checkAnswer, Wrote, wrote, writeAnswer}
+use Rattle.tainhosa.specs.Headers.{Given, given, laidOut, readAnswer, checkAnswer, Wrote, wrote, writeAnswer}
 use Rattle.tainhosa.specs.Walking.{Walked, tagAnswer}
 use Rattle.tainhosa.specs.Loading.{Loaded, poweredUp, powerUpAnswer, obeyed, commandAnswer}
 
@@ -57,29 +58,37 @@ image-refusal TooLarge v = refl
 image-refusal WrongDigest v = refl
 
 -- a header's values in buffers of their lengths
-module _ (n b n′ b′ : List ℕ) (x : Refused) (p : length n ≡ 6) (q : length b ≡ 128) where
-  laid : (a : Answer Header) (v : Header) → x ≡ refusalOf a → v ≡ valuesOf a → n′ ≡ numbersOf (x .place) v → b′ ≡ bytesOf v
-      → _≡_ {A = Given} (record { answer = x .number; numbers = n′; bytes = b′ }) (given a n b)
-  laid a v ex ev en eb = rw (eq-eqb (length n) 6 p, eq-eqb (length b) 128 q, en, eb, ex, ev)
+pub laid : (n b n′ b′ : List ℕ) (x : Refused) (v : Header) → length n ≡ 6 → length b ≡ 128 → n′ ≡ numbersOf (x .place) v → b′ ≡ bytesOf v
+    → _≡_ {A = Given} (record { answer = x .number; numbers = n′; bytes = b′ }) (given x v n b)
+laid n b n′ b′ x v p q en eb = rw (eq-eqb (length n) 6 p, eq-eqb (length b) 128 q, en, eb)
 
-  pub read-laid : (s : List ℕ) (r : HeaderAnswer) → Reads s r → x ≡ headerRefusal (r .outcome)
-      → n′ ≡ numbersOf (x .place) (r .header) → b′ ≡ bytesOf (r .header)
-      → _≡_ {A = Given} (record { answer = x .number; numbers = n′; bytes = b′ }) (readAnswer s n b)
-  read-laid s r e ex en eb =
-      laid (readHeader s) (r .header)
-      (ex ∙ header-refusal (r .outcome) (r .header) ∙ ap (λ (a : Answer Header). refusalOf a) (e .outcome)) (e .values) en eb
+-- what the reader and the check answer, in the caller's buffers
+module _ (n b : List ℕ) (x : Refused) where
+  out-of : (a : Answer Header) (v : Header) → x ≡ refusalOf a → v ≡ valuesOf a → given x v n b ≡ laidOut a n b
+  out-of a v ex ev = ap₂ (λ (y : Refused) (w : Header). given y w n b) ex ev
+
+  pub read-laid : (s : List ℕ) (r : HeaderAnswer) → Reads s r → x ≡ headerRefusal (r .outcome) → given x (r .header) n b ≡ readAnswer s n b
+  read-laid s r e ex =
+      out-of (readHeader s) (r .header)
+      (ex ∙ header-refusal (r .outcome) (r .header) ∙ ap (λ (a : Answer Header). refusalOf a) (e .outcome)) (e .values)
 
   pub check-laid : (k size : ℕ) (l : List ℕ) (r : ImageAnswer) → Checks (checkImage k size l) r → x ≡ imageRefusal (r .outcome)
-      → n′ ≡ numbersOf (x .place) (r .header) → b′ ≡ bytesOf (r .header)
-      → _≡_ {A = Given} (record { answer = x .number; numbers = n′; bytes = b′ }) (checkAnswer k size l n b)
-  check-laid k size l r e ex en eb =
-      laid (checkImage k size l) (r .header)
-      (ex ∙ image-refusal (r .outcome) (r .header) ∙ ap (λ (a : Answer Header). refusalOf a) (e .outcome)) (e .values) en eb
+      → given x (r .header) n b ≡ checkAnswer k size l n b
+  check-laid k size l r e ex =
+      out-of (checkImage k size l) (r .header)
+      (ex ∙ image-refusal (r .outcome) (r .header) ∙ ap (λ (a : Answer Header). refusalOf a) (e .outcome)) (e .values)
+
+-- a row of one number, written
+pub one : (row : List ℕ) (x : ℕ) → length row ≡ 1 → set row 0 x ≡ x ∷ []
+one [] x h = absurd (omega arith)
+one (y ∷ []) x h = refl
+one (y ∷ z ∷ zs) x h = absurd (omega arith)
 
 -- a header written
-pub written : (out b : List ℕ) (v : Header) (w : Write) (x : ℕ) → length b ≡ 128 → w ≡ writeHeader v out
-    → x ≡ refusalOf (w .answer) .number → _≡_ {A = Wrote} (record { answer = x; out = w .bytes }) (writeAnswer out v b)
-written out b v w x p e ex = rw (eq-eqb (length b) 128 p, ex) (ap wrote e)
+pub written : (out b row row′ : List ℕ) (v : Header) (w : Write) (x : Refused) → length b ≡ 128 → length row ≡ 1 → w ≡ writeHeader v out
+    → x ≡ refusalOf (w .answer) → row′ ≡ x .place ∷ []
+    → _≡_ {A = Wrote} (record { answer = x .number; out = w .bytes; row = row′ }) (writeAnswer out v b row)
+written out b row row′ v w x p q e ex er = rw (eq-eqb (length b) 128 p, eq-eqb (length row) 1 q, er, ex) (ap wrote e)
 
 -- a tag in a row of its length
 abbrev walk : ℕ → List ℕ → Walked

@@ -1,7 +1,7 @@
 -- What a C caller of `tainhosa_read_header`, `tainhosa_check_image` and `tainhosa_write_header` gets.
 use Prim.Native.Nat.{ℕ}
 use mathlib.Core.Bool.{Bool, cond, _&&_}
-use mathlib.Core.List.{List}
+use mathlib.Core.List.{List, [], _∷_}
 use lib.Dec.{eqb}
 use lib.ListN.{length}
 use Rattle.refusals.specs.Answer.{Answer}
@@ -9,6 +9,7 @@ use Rattle.header.specs.declared.Header.{Header}
 use Rattle.header.specs.Reading.{part, readHeader, valuesOf}
 use Rattle.header_writer.specs.Writing.{Write, writeHeader}
 use Rattle.image.specs.Check.{checkImage}
+use Rattle.c_headers.specs.declared.Refused.{Refused}
 use Rattle.c_headers.specs.Numbers.{refusalOf}
 use Rattle.c_headers.specs.Rows.{numbersOf, bytesOf}
 
@@ -18,27 +19,22 @@ pub record Given : Type 0 where
   pub numbers : List ℕ
   pub bytes : List ℕ
 
--- 0 and the header's values, or a refusal, its place, and blank values.
-abbrev pub laidOut : Answer Header → Given
-laidOut a =
-    record {
-      answer = refusalOf a .number;
-      numbers = numbersOf (refusalOf a .place) (valuesOf a);
-      bytes = bytesOf (valuesOf a);
-    }
-
--- The buffers n and b hold 6 numbers and 128 bytes; else 1, and both stay as they were.
-abbrev pub given : Answer Header → List ℕ → List ℕ → Given
-given a n b =
+-- A refusal or none, and a header's values, in buffers of 6 numbers and 128 bytes; else 1, and both stay as they were.
+abbrev pub given : Refused → Header → List ℕ → List ℕ → Given
+given x v n b =
     cond (eqb (length n) 6 && eqb (length b) 128)
-    (laidOut a)
+    (record { answer = x .number; numbers = numbersOf (x .place) v; bytes = bytesOf v })
     (record { answer = 1; numbers = n; bytes = b })
 
+-- 0 and the header's values, or a refusal, its place, and blank values.
+abbrev pub laidOut : Answer Header → List ℕ → List ℕ → Given
+laidOut a n b = given (refusalOf a) (valuesOf a) n b
+
 abbrev pub readAnswer : List ℕ → List ℕ → List ℕ → Given
-readAnswer s n b = given (readHeader s) n b
+readAnswer s n b = laidOut (readHeader s) n b
 
 abbrev pub checkAnswer : ℕ → ℕ → List ℕ → List ℕ → List ℕ → Given
-checkAnswer sectors size l n b = given (checkImage sectors size l) n b
+checkAnswer sectors size l n b = laidOut (checkImage sectors size l) n b
 
 -- The values to write: the numbers, and digest, signature and hint as they stand in b.
 abbrev pub valuesFrom : ℕ → ℕ → ℕ → ℕ → Bool → List ℕ → Header
@@ -54,14 +50,17 @@ valuesFrom size version timestamp auth hint b =
       hint = part b 96 32;
     }
 
--- The answer, and the output as the call returns.
+-- The answer, and the output and the row as the call returns.
 pub record Wrote : Type 0 where
   pub answer : ℕ
   pub out : List ℕ
+  pub row : List ℕ
 
+-- 0, or a refusal; the row is its place, 0 where there is none.
 abbrev pub wrote : Write → Wrote
-wrote w = record { answer = refusalOf (w .answer) .number; out = w .bytes }
+wrote w = record { answer = refusalOf (w .answer) .number; out = w .bytes; row = refusalOf (w .answer) .place ∷ [] }
 
--- The bytes b are 128; else 1, and the output stays as it was.
-abbrev pub writeAnswer : List ℕ → Header → List ℕ → Wrote
-writeAnswer out v b = cond (eqb (length b) 128) (wrote (writeHeader v out)) (record { answer = 1; out = out })
+-- The bytes b are 128, and the row has 1 number; else 1, and output and row stay as they were.
+abbrev pub writeAnswer : List ℕ → Header → List ℕ → List ℕ → Wrote
+writeAnswer out v b row =
+    cond (eqb (length b) 128 && eqb (length row) 1) (wrote (writeHeader v out)) (record { answer = 1; out = out; row = row })

@@ -1,10 +1,11 @@
 // The C interface of the library. A C caller passes a slice as a pointer and a length. Every answer is 0 or a refusal's number;
 // a buffer of another length than documented is refusal 1, and nothing changes.
+use c_headers::Refused;
 use header::Header;
 ghost use mathlib.Core.Path.{_≡_};
 ghost use Rattle.flash.specs.Buffers.{flash};
 ghost use Rattle.tainhosa.specs.Digest.{sha256Answer};
-ghost use Rattle.tainhosa.specs.Headers.{readAnswer, checkAnswer, valuesFrom, writeAnswer};
+ghost use Rattle.tainhosa.specs.Headers.{given, readAnswer, checkAnswer, valuesFrom, writeAnswer};
 ghost use Rattle.tainhosa.specs.Walking.{tagAnswer};
 ghost use Rattle.tainhosa.specs.Loading.{powerUpAnswer, armAnswer, confirmAnswer};
 
@@ -16,6 +17,8 @@ const HEADER_BYTES: usize = 128;
 const DIGEST_BYTES: usize = 32;
 
 // The rows of the other calls.
+const WRITE_NUMBERS: usize = 1;
+
 const TAG_NUMBERS: usize = 6;
 
 const POWER_UP_NUMBERS: usize = 6;
@@ -38,10 +41,9 @@ pub extern "C" fn tainhosa_sha256(message: &[u8], digest: &mut [u8]) -> u32
     0
 }
 
-// Reads the header in the first 256 bytes of the input.
-#[no_mangle]
-pub extern "C" fn tainhosa_read_header(input: &[u8], numbers: &mut [u64], bytes: &mut [u8]) -> u32
-    ensures { λ r. ⌜ record { answer = r; numbers = now (numbers .exit); bytes = now (bytes .exit) } ≡ readAnswer (now (input .entry)) (now (numbers .entry)) (now (bytes .entry)) ⌝ }
+// A refusal or none, and a header's values, into the caller's buffers.
+fn give(numbers: &mut [u64], bytes: &mut [u8], refused: Refused, v: Header) -> u32
+    ensures { λ r. ⌜ record { answer = r; numbers = now (numbers .exit); bytes = now (bytes .exit) } ≡ given refused v (now (numbers .entry)) (now (bytes .entry)) ⌝ }
 {
     if numbers.len() != HEADER_NUMBERS {
         return WRONG_LENGTH;
@@ -49,12 +51,19 @@ pub extern "C" fn tainhosa_read_header(input: &[u8], numbers: &mut [u64], bytes:
     if bytes.len() != HEADER_BYTES {
         return WRONG_LENGTH;
     }
+    c_headers::put_header(numbers, bytes, refused.place, v);
+    refused.number
+}
+
+// Reads the header in the first 256 bytes of the input.
+#[no_mangle]
+pub extern "C" fn tainhosa_read_header(input: &[u8], numbers: &mut [u64], bytes: &mut [u8]) -> u32
+    ensures { λ r. ⌜ record { answer = r; numbers = now (numbers .exit); bytes = now (bytes .exit) } ≡ readAnswer (now (input .entry)) (now (numbers .entry)) (now (bytes .entry)) ⌝ }
+{
     let read = header::read_header(input);
     let outcome = read.outcome;
-    let refused = c_headers::of_header(outcome);
-    let h = read.header;
-    c_headers::put_header(numbers, bytes, refused.place, h);
-    refused.number
+    let v = read.header;
+    give(numbers, bytes, c_headers::of_header(outcome), v)
 }
 
 // Checks the image of a partition.
@@ -68,21 +77,14 @@ pub extern "C" fn tainhosa_check_image(
 ) -> u32
     ensures { λ r. ⌜ record { answer = r; numbers = now (numbers .exit); bytes = now (bytes .exit) } ≡ checkAnswer sectors size (now (partition .entry)) (now (numbers .entry)) (now (bytes .entry)) ⌝ }
 {
-    if numbers.len() != HEADER_NUMBERS {
-        return WRONG_LENGTH;
-    }
-    if bytes.len() != HEADER_BYTES {
-        return WRONG_LENGTH;
-    }
     let checked = image::check_image(sectors, size, partition);
     let outcome = checked.outcome;
-    let refused = c_headers::of_image(outcome);
-    let h = checked.header;
-    c_headers::put_header(numbers, bytes, refused.place, h);
-    refused.number
+    let v = checked.header;
+    give(numbers, bytes, c_headers::of_image(outcome), v)
 }
 
-// Writes a header into the first 256 bytes of the output. The bytes are the digest, the signature and the hint.
+// Writes a header into the first 256 bytes of the output. The bytes are the digest, the signature and the hint; the row takes the
+// place of a refusal.
 #[no_mangle]
 pub extern "C" fn tainhosa_write_header(
     out: &mut [u8],
@@ -92,10 +94,14 @@ pub extern "C" fn tainhosa_write_header(
     auth_type: u16,
     has_hint: bool,
     bytes: &[u8],
+    place: &mut [u64],
 ) -> u32
-    ensures { λ r. ⌜ record { answer = r; out = now (out .exit) } ≡ writeAnswer (now (out .entry)) (valuesFrom size version timestamp «auth_type» «has_hint» (now (bytes .entry))) (now (bytes .entry)) ⌝ }
+    ensures { λ r. ⌜ record { answer = r; out = now (out .exit); row = now (place .exit) } ≡ writeAnswer (now (out .entry)) (valuesFrom size version timestamp «auth_type» «has_hint» (now (bytes .entry))) (now (bytes .entry)) (now (place .entry)) ⌝ }
 {
     if bytes.len() != HEADER_BYTES {
+        return WRONG_LENGTH;
+    }
+    if place.len() != WRITE_NUMBERS {
         return WRONG_LENGTH;
     }
     let digest = header::copy_32(bytes, 0);
@@ -111,8 +117,9 @@ pub extern "C" fn tainhosa_write_header(
         has_hint,
         hint,
     };
-    let outcome = header_writer::write_header(out, v);
-    c_headers::of_write(outcome)
+    let refused = c_headers::of_write(header_writer::write_header(out, v));
+    place[0] = refused.place;
+    refused.number
 }
 
 // The tag from a place of a header on, and the place to go on from.
