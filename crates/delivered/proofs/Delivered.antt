@@ -1,13 +1,12 @@
 -- Demand 3 and the marked cases, of the delivered check. Assumes nothing.
-use mathlib.Core.List.{List, [], _∷_, map}
+use mathlib.Core.List.{map}
 use Rattle.flash.specs.declared.Geometry.{Geometry}
 use Rattle.exchange.specs.Demand.{ReadsFirmware}
-use Rattle.exchange.specs.Cases.{exchangeCases, three, Every}
+use Rattle.exchange.specs.Cases.{exchangeCases, three}
 use Rattle.exchange.proofs.Whole.{demand-3}
 use Rattle.exchange.proofs.Cases.{marked-exchange}
-use Rattle.exchange.proofs.Every.{every-map, every-append}
-use Rattle.round_trips.specs.Cases.{HeaderCase, headerCases, AllHold}
-use Rattle.round_trips.specs.Cases as header
+use Rattle.refusals.proofs.Every.{every-map, every-append}
+use Rattle.round_trips.specs.Cases.{headerCases}
 use Rattle.round_trips.proofs.Marked.{header-cases}
 use Rattle.decision.specs.Numbers.{checkOf}
 use Rattle.decision.proofs.Readings.{check-reads-firmware}
@@ -21,12 +20,8 @@ reads-firmware g l l′ e e′ same = check-reads-firmware g l l′ same
 pub demand-3-delivered : Demand3
 demand-3-delivered x g f starts es allowed = demand-3 checkOf x g f (reads-firmware g) starts es allowed
 
-each : (cs : List HeaderCase) → AllHold cs → Every header.Holds cs
-each [] e = tt
-each (c ∷ cs) e = (e .0, each cs (e .1))
-
 pub marked-cases : MarkedCases
 marked-cases =
     every-append Holds (map ofExchange exchangeCases) (map ofHeader headerCases)
     (every-map ofExchange Holds exchangeCases (marked-exchange checkOf (reads-firmware three)))
-    (every-map ofHeader Holds headerCases (each headerCases header-cases))
+    (every-map ofHeader Holds headerCases header-cases)

@@ -1,7 +1,8 @@
 -- Document 01, "Marked cases": all lines marked P, 1 to 9, as one list and one claim, of the delivered check and the delivered header rules.
 use mathlib.Core.List.{List, _++_, map}
+use Rattle.refusals.specs.Every.{Every}
 use Rattle.exchange.specs.Cases as exchange
-use Rattle.exchange.specs.Cases.{ExchangeCase, exchangeCases, Every}
+use Rattle.exchange.specs.Cases.{ExchangeCase, exchangeCases}
 use Rattle.round_trips.specs.Cases as header
 use Rattle.round_trips.specs.Cases.{HeaderCase, headerCases}
 use Rattle.decision.specs.Numbers.{checkOf}

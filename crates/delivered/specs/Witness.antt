@@ -1,5 +1,5 @@
--- Demand 3 is not empty: a flash on which the delivered check accepts an update, and a list from there with a refused power-up, a torn copy,
--- an early end and the finish.
+-- Demand 3 is not empty: a flash on which the delivered check accepts an update, one on which it finds a fallback good, and from each
+-- a list with a refused power-up, a torn copy, an early end and the finish.
 use mathlib.Core.Path.{_≡_}
 use mathlib.Core.Bool.{false}
 use mathlib.Core.List.{List, [], _∷_, _++_}

@@ -28,7 +28,8 @@ use Rattle.exchange.specs.Order.{nextOperation, Run, run}
 use Rattle.exchange.specs.Decision.{Check, noReason, work, decideBy, decide}
 use Rattle.exchange.specs.PowerUp.{Outcome, refusal, cut, PowerUp, doneOutcome, outcomeBy, worked, powerUp}
 use Rattle.exchange.specs.Demand.{Exchange, update, fallback, jobOf, ReadsFirmware}
-use Rattle.exchange.specs.Cases.{three, flagByteOf, after, counts, lastOutcome, Leaves, ExchangeCase, powerUps, malformed, FlagByteIs, LeavesAs, Holds, exchangeCases, Every, MarkedExchange}
+use Rattle.refusals.specs.Every.{Every}
+use Rattle.exchange.specs.Cases.{three, flagByteOf, after, counts, lastOutcome, Leaves, ExchangeCase, powerUps, malformed, FlagByteIs, LeavesAs, Holds, exchangeCases, MarkedExchange}
 use Rattle.flash.proofs.Checked.{shaped-of}
 use Rattle.trailer.proofs.Moves.{moved, legMoves, leg-below}
 use Rattle.exchange.proofs.Accepted.{Images}
@@ -37,7 +38,7 @@ use Rattle.exchange.proofs.Stage.{Closing, erase-boot, write-testing, e
 use Rattle.exchange.proofs.Walked.{closing-some, Walked, walked, ended, restart}
 use Rattle.exchange.proofs.Played.{works, end-good}
 use Rattle.exchange.proofs.Whole.{start}
-use Rattle.exchange.proofs.Every.{every}
+use Rattle.refusals.proofs.Every.{every}
 
 two : firmware three ≡ 2
 unfolding firmware

@@ -13,7 +13,6 @@ pub mod Played
 pub mod Whole
 pub mod Reached
 -- the marked cases 1 to 6; what the rules rule out; arm and confirm without power
-pub mod Every
 pub mod Cases
 pub mod RuledOut
 pub mod Commands

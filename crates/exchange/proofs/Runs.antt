@@ -9,30 +9,30 @@ use Rattle.exchange.specs.declared.Next.{Next}
 use Rattle.exchange.specs.declared.Next.the-variants.{Do, Nothing}
 use Rattle.exchange.specs.declared.Job.{Job}
 use Rattle.exchange.specs.Operations.{perform, placeAfter}
-use Rattle.exchange.specs.Order.{nextOperation, Run, oneMore, runBy, run}
+use Rattle.exchange.specs.Order.{nextOperation, performNext, step, Run, oneMore, runBy, run}
 use Rattle.exchange.specs.Decision.{Check, Reason, work, decide}
 use Rattle.exchange.specs.PowerUp.{worked, powerUp}
 
 pub run-none : (job : Job) (g : Geometry) (k p : ℕ) (f : Flash) → nextOperation job g p f ≡ Nothing → run job g k p f ≡ record { count = 0; place = p; flash = f }
-unfolding run
+unfolding run step
 run-none job g zero p f e = refl
-run-none job g (suc k) p f e = ap (λ (n : Next). runBy n p f (λ o. run job g k (placeAfter o) (perform g o f))) e
+run-none job g (suc k) p f e = ap (λ (n : Next). runBy n p (performNext g n f) (λ q. run job g k q (performNext g n f))) e
 
 pub run-some : (job : Job) (g : Geometry) (k p : ℕ) (f : Flash) (o : Operation) → nextOperation job g p f ≡ Do o
     → run job g (suc k) p f ≡ oneMore (run job g k (placeAfter o) (perform g o f))
-unfolding run
-run-some job g k p f o e = ap (λ (n : Next). runBy n p f (λ o. run job g k (placeAfter o) (perform g o f))) e
+unfolding run step
+run-some job g k p f o e = ap (λ (n : Next). runBy n p (performNext g n f) (λ q. run job g k q (performNext g n f))) e
 
 -- no more steps than k
 pub run-within : (job : Job) (g : Geometry) (k p : ℕ) (f : Flash) → (run job g k p f) .count ≤ k
-unfolding run
+unfolding run step
 run-within job g zero p f = omega arith
-run-within job g (suc k) p f = by (nextOperation job g p f) (λ o. run-within job g k (placeAfter o) (perform g o f))
+run-within job g (suc k) p f = by (nextOperation job g p f) (λ q h. run-within job g k q h)
   where
-    by : (n : Next) → ((o : Operation) → (run job g k (placeAfter o) (perform g o f)) .count ≤ k)
-        → (runBy n p f (λ o. run job g k (placeAfter o) (perform g o f))) .count ≤ suc k
+    by : (n : Next) → ((q : ℕ) (h : Flash) → (run job g k q h) .count ≤ k)
+        → (runBy n p (performNext g n f) (λ q. run job g k q (performNext g n f))) .count ≤ suc k
     by Nothing ih = omega arith
-    by (Do o) ih = omega (arith, ih o)
+    by (Do o) ih = omega (arith, ih (placeAfter o) (perform g o f))
 
 -- j steps and then k more are j + k steps
 abbrev pub andThen : Run → Run → Run

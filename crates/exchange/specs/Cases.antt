@@ -7,6 +7,7 @@ use mathlib.Core.Option.{Option, none, some}
 use Prim.Native.Nat.{ℕ, _<_}
 use lib.ListN.{getD}
 use Rattle.refusals.specs.Answer.{gives}
+use Rattle.refusals.specs.Every.{Every}
 use Rattle.flash.specs.declared.Geometry.{Geometry}
 use Rattle.flash.specs.Sizes.{geometry}
 use Rattle.flash.specs.Buffers.{Flash, fits}
@@ -138,11 +139,6 @@ exchangeCases =
     ∷ malformed 0x7F true
     ∷ malformed 0xF7 false
     ∷ []
-
--- Every case of a list, of any kind of case.
-abbrev pub Every : {C : Type 0} → (C → Type 0) → List C → Type 0
-Every P [] = Unit {0}
-Every P (c ∷ cs) = P c × Every P cs
 
 -- The cases 1 to 6, for every image check that reads the firmware sectors only.
 abbrev pub MarkedExchange : Type 0

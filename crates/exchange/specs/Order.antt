@@ -54,7 +54,7 @@ orderedBy job p (refused n q) u flags = Nothing
 unfoldable pub nextOperation : Job → Geometry → ℕ → Flash → Next
 nextOperation job g p f = orderedBy job p (bootStatusAt g (f .boot)) (updateStatusAt g (f .update)) (flagsAt g (f .update))
 
--- The single step: the next operation, and the flash after it.
+-- The single step: the next operation, if there is one, is done. It is the only way in which a power-up changes the flash.
 pub record Step : Type 0 where
   pub next : Next
   pub flash : Flash
@@ -66,7 +66,8 @@ performNext g (Do o) f = perform g o f
 unfoldable pub step : Job → Geometry → ℕ → Flash → Step
 step job g p f = record { next = nextOperation job g p f; flash = performNext g (nextOperation job g p f) f }
 
--- At most k steps, from a place within a leg: how many were done, the place and the flash after them.
+-- The step repeated, at most k times, from a place within a leg, until it finds nothing to do: how many operations were done, the
+-- place and the flash after them.
 pub record Run : Type 0 where
   pub count : ℕ
   pub place : ℕ
@@ -75,10 +76,10 @@ pub record Run : Type 0 where
 abbrev pub oneMore : Run → Run
 oneMore r = record { count = suc (r .count); place = r .place; flash = r .flash }
 
-abbrev pub runBy : Next → ℕ → Flash → (Operation → Run) → Run
+abbrev pub runBy : Next → ℕ → Flash → (ℕ → Run) → Run
 runBy Nothing p f rest = record { count = 0; place = p; flash = f }
-runBy (Do o) p f rest = oneMore (rest o)
+runBy (Do o) p f rest = oneMore (rest (placeAfter o))
 
 unfoldable pub run : Job → Geometry → ℕ → ℕ → Flash → Run
 run job g zero p f = record { count = 0; place = p; flash = f }
-run job g (suc k) p f = runBy (nextOperation job g p f) p f (λ o. run job g k (placeAfter o) (perform g o f))
+run job g (suc k) p f = let s : Step = step job g p f in runBy (s .next) p (s .flash) (λ q. run job g k q (s .flash))

@@ -19,7 +19,7 @@ pub record PaddingRule : Type 0 where
 
 -- ---- 4.2.2 and 5.3.3, the rule of the constants.
 
--- p is at least 2, and no number from 2 up to p divides it.
+-- p is at least 2, and no number from 2 to p - 1 divides it.
 pub record Prime (p : ℕ) : Type 0 where
   pub least : 2 ≤ p
   pub only : (d : ℕ) → 2 ≤ d → d < p → p % d ≡ 0 → ⊥

@@ -1,2 +1,3 @@
 -- What every call of the library gives back, by document 01.
 pub mod Answer
+pub mod Every

@@ -9,8 +9,8 @@ use lib.Seq.{take-at, drop-append-add}
 use lib.Dec.{lit<, eqb}
 use Rattle.refusals.specs.Answer.{Answer, gives, then}
 use Rattle.tags.specs.Walk.{Tags, ended, more, tagsAt}
-use Rattle.tags.specs.Bytes.{littleEndian, number, Field, tagBytes, fieldBytes, tagsOf}
-use Rattle.tags.proofs.Found.{Writable, AllWritable, none, one, tags-there, field-append}
+use Rattle.tags.specs.Bytes.{littleEndian, number, Field, tagBytes, fieldBytes}
+use Rattle.tags.proofs.Found.{tagsOf, Writable, AllWritable, none, one, tags-there, field-append}
 use Rattle.places.specs.Table.{documentTable}
 use Rattle.places.specs.Judging.{judge, rowOf, placesIn}
 use Rattle.header.specs.declared.Header.{Header}

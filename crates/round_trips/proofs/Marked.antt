@@ -8,8 +8,8 @@ use lib.ListN.{length, take, replicate, length-append}
 use lib.Seq.{take-all}
 use Rattle.refusals.specs.Answer.{gives, refused, then}
 use Rattle.tags.specs.Walk.{end, itemAt, itemFrom, tagsFrom, Tags, ended, more, tagsAt}
-use Rattle.tags.specs.Bytes.{littleEndian, number, fieldBytes, tagsOf}
-use Rattle.tags.proofs.Found.{end-there, field-append}
+use Rattle.tags.specs.Bytes.{littleEndian, number, fieldBytes}
+use Rattle.tags.proofs.Found.{tagsOf, end-there, field-append}
 use Rattle.places.specs.Table.{documentTable}
 use Rattle.places.specs.Judging.{judge, rowOf, placesIn}
 use Rattle.header.specs.declared.Header.{Header}

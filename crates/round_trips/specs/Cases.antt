@@ -5,6 +5,7 @@ use mathlib.Core.List.{List, [], _∷_, _++_}
 use mathlib.Core.Bool.{Bool, true, false}
 use lib.ListN.{replicate}
 use Rattle.refusals.specs.Answer.{gives, refused}
+use Rattle.refusals.specs.Every.{Every}
 use Rattle.tags.specs.Walk.{firstTag, end, itemAt, Tags, ended, more, tagsAt}
 use Rattle.tags.specs.Bytes.{littleEndian}
 use Rattle.header.specs.declared.Header.{Header}
@@ -40,10 +41,5 @@ headerCases =
     ∷ refusing twoVersions 5 16
     ∷ []
 
--- Every case of a list holds.
-abbrev pub AllHold : List HeaderCase → Type 0
-AllHold [] = Unit {0}
-AllHold (c ∷ cs) = Holds c × AllHold cs
-
 abbrev pub HeaderCases : Type 0
-HeaderCases = AllHold headerCases
+HeaderCases = Every Holds headerCases

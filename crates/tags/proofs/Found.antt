@@ -6,9 +6,14 @@ use native.Mathlib.Omega.{arith}
 use lib.ListN.{length, getD, length-append}
 use lib.Seq.{getD-append-add, getD-append-seam}
 use Rattle.refusals.specs.Answer.{Answer, gives}
-use Rattle.tags.specs.Walk.{typeAt, lengthAt, Item, tag, end, itemAt, nextItem, Tags, more, onItem, tagsAt}
-use Rattle.tags.specs.Bytes.{Field, tagBytes, fieldBytes, tagsOf}
+use Rattle.tags.specs.Walk.{typeAt, lengthAt, Item, tag, end, itemAt, nextItem, Tags, ended as no-more, more, onItem, tagsAt}
+use Rattle.tags.specs.Bytes.{Field, tagBytes, fieldBytes}
 use Rattle.tags.proofs.Laws.{the-end, found, next-item, tags-step}
+
+-- the tags that a walk finds where fields were written from p on, and ended
+unfoldable pub tagsOf : ℕ → List Field → Tags
+tagsOf p [] = no-more
+tagsOf p (f ∷ l) = more p (f .type) (length (f .value)) (tagsOf (p + 4 + length (f .value)) l)
 
 -- a type and a value that can be written: the type is not the end's, and its low byte is no padding
 pub record Writable (f : Field) : Type 0 where

@@ -2,7 +2,6 @@
 use Prim.Native.Nat.{ℕ, zero, suc, _+_, _*_, _/_, _%_}
 use mathlib.Core.List.{List, [], _∷_, _++_}
 use lib.ListN.{length}
-use Rattle.tags.specs.Walk.{Tags, ended, more}
 
 -- Source 000 stores the numbers of a header with the low byte first: v in n bytes, and the number that bytes are.
 abbrev pub littleEndian : ℕ → ℕ → List ℕ
@@ -25,8 +24,3 @@ tagBytes t v = littleEndian 2 t ++ (littleEndian 2 (length v) ++ v)
 unfoldable pub fieldBytes : List Field → List ℕ
 fieldBytes [] = []
 fieldBytes (f ∷ l) = tagBytes (f .type) (f .value) ++ fieldBytes l
-
--- The tags that a walk finds in those bytes, laid from p on and ended.
-unfoldable pub tagsOf : ℕ → List Field → Tags
-tagsOf p [] = ended
-tagsOf p (f ∷ l) = more p (f .type) (length (f .value)) (tagsOf (p + 4 + length (f .value)) l)

@@ -57,7 +57,7 @@ flagsFrom g u (suc k) i = flagAt g u i ∷ flagsFrom g u k (suc i)
 unfoldable pub flags : Geometry → List ℕ → List FlagRead
 flags g u = flagsFrom g u (firmware g) 0
 
--- F only
+-- a flag is F; all of a list are
 abbrev pub isF : FlagRead → Bool
 isF (Known Untouched) = true
 isF (Known Saved) = false

@@ -1,6 +1,6 @@
 -- Claims over lists of cases, for lists that hold several kinds of case.
 use mathlib.Core.List.{List, [], _∷_, _++_, map}
-use Rattle.exchange.specs.Cases.{Every}
+use Rattle.refusals.specs.Every.{Every}
 
 -- what follows from P of each case holds of each case
 pub every : {C : Type 0} (P Q : C → Type 0) → ((c : C) → P c → Q c) → (cs : List C) → Every P cs → Every Q cs

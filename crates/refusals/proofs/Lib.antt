@@ -1,0 +1,2 @@
+-- Laws of claims over lists of cases.
+pub mod Every
