@@ -35,7 +35,7 @@ pub fn of_header(o: HeaderOutcome) -> Refused
         HeaderOutcome::Accepted => refuse(0, 0),
         HeaderOutcome::TooShort => refuse(16, 0),
         HeaderOutcome::WrongMagic => refuse(2, 0),
-        HeaderOutcome::ZeroSize => refuse(3, 4),
+        HeaderOutcome::WrongSize => refuse(3, 4),
         HeaderOutcome::TagDoesNotFit(p) => refuse(4, p),
         HeaderOutcome::WrongLength(p) => refuse(5, p),
         HeaderOutcome::Repeated(p) => refuse(6, p),
@@ -51,7 +51,6 @@ pub fn of_image(o: ImageOutcome) -> Refused
         ImageOutcome::Good => refuse(0, 0),
         ImageOutcome::OutsideRules => refuse(1, 0),
         ImageOutcome::BadHeader(h) => of_header(h),
-        ImageOutcome::TooLarge => refuse(3, 4),
         ImageOutcome::WrongDigest => refuse(9, 256),
     }
 }

@@ -31,7 +31,6 @@ fn verdict_of(o: ImageOutcome) -> Verdict
         ImageOutcome::Good => Verdict::Accepted,
         ImageOutcome::OutsideRules => Verdict::Refused(1, 0),
         ImageOutcome::BadHeader(h) => bad_header(listing::verdict_of(h)),
-        ImageOutcome::TooLarge => Verdict::Refused(3, 4),
         ImageOutcome::WrongDigest => Verdict::Refused(9, 256),
     }
 }

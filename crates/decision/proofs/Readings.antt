@@ -17,7 +17,7 @@ use Rattle.status.specs.StatusBytes.{bootStatusAt, updateStatusAt, statusesOf, 
 use Rattle.status.proofs.Both.{statuses-read}
 use Rattle.image.specs.declared.ImageAnswer.{ImageAnswer}
 use Rattle.image.specs.declared.ImageOutcome.{ImageOutcome}
-use Rattle.image.specs.declared.ImageOutcome.the-variants.{Good as GoodImage, OutsideRules, BadHeader, TooLarge, WrongDigest}
+use Rattle.image.specs.declared.ImageOutcome.the-variants.{Good as GoodImage, OutsideRules, BadHeader, WrongDigest}
 use Rattle.image.specs.Check.{badHeader, answerOf, imageIn, Checks}
 use Rattle.exchange.specs.Decision.{Plan, refuse, decideBy, decideStatuses}
 use Rattle.decision.specs.declared.Verdict.the-variants.{Bad}
@@ -44,7 +44,6 @@ image-version : (o : ImageOutcome) (h : Header) → answerOf o (h .version) ≡ 
 image-version GoodImage h = refl
 image-version OutsideRules h = refl
 image-version (BadHeader o) h = bad-version (header.answerOf o tt)
-image-version TooLarge h = refl
 image-version WrongDigest h = refl
 
 -- the check of the firmware part, with its version alone

@@ -52,7 +52,6 @@ fn verdict_on(outcome: ImageOutcome, version: u32) -> Verdict
         ImageOutcome::Good => Verdict::Good(version),
         ImageOutcome::OutsideRules => Verdict::Bad(outcome),
         ImageOutcome::BadHeader(_) => Verdict::Bad(outcome),
-        ImageOutcome::TooLarge => Verdict::Bad(outcome),
         ImageOutcome::WrongDigest => Verdict::Bad(outcome),
     }
 }

@@ -194,7 +194,7 @@ pub fn read_header(s: &[u8]) -> HeaderAnswer
     }
     let size = read_u32(h, 4);
     if size == 0 {
-        return refuse(HeaderOutcome::ZeroSize);
+        return refuse(HeaderOutcome::WrongSize);
     }
     let types = TYPES;
     let lengths = LENGTHS;

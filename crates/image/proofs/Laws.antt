@@ -10,7 +10,7 @@ use borrow.Author.Tests.{lt-ltb, le-ltb, eq-eqb, eqb-true}
 use Rattle.refusals.specs.Answer.{Answer, gives, refused, then}
 use Rattle.fips180.specs.Sha256.{sha256}
 use Rattle.places.specs.declared.HeaderOutcome.{HeaderOutcome}
-use Rattle.places.specs.declared.HeaderOutcome.the-variants.{Accepted}
+use Rattle.places.specs.declared.HeaderOutcome.the-variants.{Accepted, WrongSize}
 use Rattle.places.specs.Judging as header
 use Rattle.places.proofs.Refusals.{refusing}
 use Rattle.header.specs.declared.Header.{Header}
@@ -21,7 +21,7 @@ use Rattle.flash.specs.declared.Geometry.{Geometry}
 use Rattle.flash.specs.Sectors.{firmwareOf}
 use Rattle.flash.specs.Buffers.{partitionOf}
 use Rattle.image.specs.declared.ImageOutcome.{ImageOutcome}
-use Rattle.image.specs.declared.ImageOutcome.the-variants.{Good, OutsideRules, BadHeader, TooLarge, WrongDigest}
+use Rattle.image.specs.declared.ImageOutcome.the-variants.{Good, OutsideRules, BadHeader, WrongDigest}
 use Rattle.image.specs.declared.ImageAnswer.{ImageAnswer}
 use Rattle.image.specs.Check.{badHeader, answerOf, same, covered, judged, imageIn, checkImage, Checks}
 
@@ -85,7 +85,7 @@ module _ (b : List ℕ) (h : HeaderAnswer) (reads : Reads b h) where
     unfolding imageIn
     image = ap (λ (a : Answer Header). then a (judged b)) read
 
-    pub too-large : {r : ImageAnswer} → length b - 256 < h .header .size → (r .outcome ≡ TooLarge) × (r .header ≡ blank) → Checks (imageIn b) r
+    pub too-large : {r : ImageAnswer} → length b - 256 < h .header .size → (r .outcome ≡ BadHeader WrongSize) × (r .header ≡ blank) → Checks (imageIn b) r
     too-large lt w = turned w refl (image ∙ simp (lt-ltb _ _ lt))
 
     module _ (fits : h .header .size ≤ length b - 256) {c : List ℕ} (part : c ≡ covered b (h .header)) where

@@ -14,7 +14,7 @@ use Rattle.flash.specs.declared.Geometry.{Geometry}
 use Rattle.flash.specs.Sectors.{firmwareOf}
 use Rattle.flash.specs.Buffers.{partitionOf}
 use Rattle.image.specs.declared.ImageOutcome.{ImageOutcome}
-use Rattle.image.specs.declared.ImageOutcome.the-variants.{Good, OutsideRules, BadHeader, TooLarge, WrongDigest}
+use Rattle.image.specs.declared.ImageOutcome.the-variants.{Good, OutsideRules, BadHeader, WrongDigest}
 use Rattle.image.specs.declared.ImageAnswer.{ImageAnswer}
 
 -- A bad header has the reader's own refusal. An accepted header is not bad: the 0 that stands for it is no number of 01.
@@ -27,7 +27,6 @@ abbrev pub answerOf : {A : Type 0} → ImageOutcome → A → Answer A
 answerOf Good a = gives a
 answerOf OutsideRules a = refused 1 0
 answerOf (BadHeader o) a = badHeader (header.answerOf o tt)
-answerOf TooLarge a = refused 3 4
 answerOf WrongDigest a = refused 9 256
 
 -- Two strings of bytes are the same.

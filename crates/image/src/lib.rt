@@ -12,9 +12,8 @@ pub enum ImageOutcome {
     Good,
     // Geometry or length outside the rules.
     OutsideRules,
+    // The reader's refusal; or its "wrong size", where the firmware sectors cannot hold the firmware.
     BadHeader(HeaderOutcome),
-    // The firmware sectors cannot hold the firmware.
-    TooLarge,
     WrongDigest,
 }
 
@@ -52,7 +51,7 @@ pub fn check_firmware(b: &[u8]) -> ImageAnswer
     if let HeaderOutcome::Accepted = outcome {
         let size = h.size as usize;
         if b.len() - tags::HEADER_LENGTH < size {
-            return refuse(ImageOutcome::TooLarge);
+            return refuse(ImageOutcome::BadHeader(HeaderOutcome::WrongSize));
         }
         let stated = h.digest;
         let end = tags::HEADER_LENGTH + size;

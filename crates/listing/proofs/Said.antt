@@ -7,7 +7,7 @@ use lib.ListN.{length}
 use lib.Seq.{sets-eq, length-sets, length-take-le}
 use Rattle.refusals.specs.Answer.{Answer, gives, then}
 use Rattle.places.specs.declared.HeaderOutcome.{HeaderOutcome}
-use Rattle.places.specs.declared.HeaderOutcome.the-variants.{Accepted, TooShort, WrongMagic, ZeroSize, TagDoesNotFit, WrongLength, Repeated, NoEnd, Missing}
+use Rattle.places.specs.declared.HeaderOutcome.the-variants.{Accepted, TooShort, WrongMagic, WrongSize, TagDoesNotFit, WrongLength, Repeated, NoEnd, Missing}
 use Rattle.places.specs.Judging.{answerOf}
 use Rattle.header.specs.declared.Header.{Header}
 use Rattle.header.specs.Reading.{readHeader}
@@ -20,7 +20,7 @@ beside : (o : HeaderOutcome) (v : Header) → then (answerOf o (tt {0})) (λ x. 
 beside Accepted v = refl
 beside TooShort v = refl
 beside WrongMagic v = refl
-beside ZeroSize v = refl
+beside WrongSize v = refl
 beside (TagDoesNotFit p) v = refl
 beside (WrongLength p) v = refl
 beside (Repeated p) v = refl

@@ -27,7 +27,7 @@ pub fn verdict_of(o: HeaderOutcome) -> Verdict
         HeaderOutcome::Accepted => Verdict::Accepted,
         HeaderOutcome::TooShort => Verdict::Refused(16, 0),
         HeaderOutcome::WrongMagic => Verdict::Refused(2, 0),
-        HeaderOutcome::ZeroSize => Verdict::Refused(3, 4),
+        HeaderOutcome::WrongSize => Verdict::Refused(3, 4),
         HeaderOutcome::TagDoesNotFit(p) => Verdict::Refused(4, p),
         HeaderOutcome::WrongLength(p) => Verdict::Refused(5, p),
         HeaderOutcome::Repeated(p) => Verdict::Refused(6, p),

@@ -8,7 +8,7 @@ use Rattle.refusals.specs.Answer.{Answer, gives, refused}
 use Rattle.tags.specs.Walk.{firstTag, Tags, ended, broken, more, tagsAt}
 use Rattle.places.specs.Table.{TagTable}
 use Rattle.places.specs.declared.HeaderOutcome.{HeaderOutcome}
-use Rattle.places.specs.declared.HeaderOutcome.the-variants.{Accepted, TooShort, WrongMagic, ZeroSize, TagDoesNotFit, WrongLength, Repeated, NoEnd, Missing}
+use Rattle.places.specs.declared.HeaderOutcome.the-variants.{Accepted, TooShort, WrongMagic, WrongSize, TagDoesNotFit, WrongLength, Repeated, NoEnd, Missing}
 
 -- The paper's number and place for each case of the code's outcome, "Numbers given back", rows 2 to 8 and 16.
 -- The place of 4, 5 and 6 is the tag's first byte, that of 7 the header's length; at 8 the missing type stands for the place.
@@ -16,7 +16,7 @@ abbrev pub answerOf : {A : Type 0} → HeaderOutcome → A → Answer A
 answerOf Accepted a = gives a
 answerOf TooShort a = refused 16 0
 answerOf WrongMagic a = refused 2 0
-answerOf ZeroSize a = refused 3 4
+answerOf WrongSize a = refused 3 4
 answerOf (TagDoesNotFit p) a = refused 4 p
 answerOf (WrongLength p) a = refused 5 p
 answerOf (Repeated p) a = refused 6 p

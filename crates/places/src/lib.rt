@@ -14,7 +14,8 @@ pub enum HeaderOutcome {
     Accepted,
     TooShort,
     WrongMagic,
-    ZeroSize,
+    // The firmware's size is 0; in an image also: more than its sectors hold.
+    WrongSize,
     TagDoesNotFit(usize),
     WrongLength(usize),
     Repeated(usize),

@@ -9,7 +9,7 @@ use Rattle.refusals.specs.Answer.{Answer}
 use Rattle.flash.specs.Sizes.{geometry}
 use Rattle.flash.specs.Buffers.{Flash}
 use Rattle.places.specs.declared.HeaderOutcome.{HeaderOutcome}
-use Rattle.places.specs.declared.HeaderOutcome.the-variants.{Accepted, TooShort, WrongMagic, ZeroSize, TagDoesNotFit, WrongLength, Repeated, NoEnd, Missing}
+use Rattle.places.specs.declared.HeaderOutcome.the-variants.{Accepted, TooShort, WrongMagic, WrongSize, TagDoesNotFit, WrongLength, Repeated, NoEnd, Missing}
 use Rattle.places.specs.Judging as header
 use Rattle.header.specs.declared.Header.{Header}
 use Rattle.header.specs.declared.HeaderAnswer.{HeaderAnswer}
@@ -17,7 +17,7 @@ use Rattle.header.specs.Reading.{readHeader, valuesOf, Reads}
 use Rattle.header_writer.specs.Writing.{Write, writeHeader}
 use Rattle.image.specs.declared.ImageAnswer.{ImageAnswer}
 use Rattle.image.specs.declared.ImageOutcome.{ImageOutcome}
-use Rattle.image.specs.declared.ImageOutcome.the-variants.{Good, OutsideRules, BadHeader, TooLarge, WrongDigest}
+use Rattle.image.specs.declared.ImageOutcome.the-variants.{Good, OutsideRules, BadHeader, WrongDigest}
 use Rattle.image.specs.Check as image
 use Rattle.image.specs.Check.{Checks, checkImage}
 use Rattle.exchange.specs.PowerUp.{powerUp}
@@ -43,7 +43,7 @@ header-refusal : (o : HeaderOutcome) (v : Header) → headerRefusal o ≡ refusa
 header-refusal Accepted v = refl
 header-refusal TooShort v = refl
 header-refusal WrongMagic v = refl
-header-refusal ZeroSize v = refl
+header-refusal WrongSize v = refl
 header-refusal (TagDoesNotFit p) v = refl
 header-refusal (WrongLength p) v = refl
 header-refusal (Repeated p) v = refl
@@ -54,7 +54,6 @@ image-refusal : (o : ImageOutcome) (v : Header) → imageRefusal o ≡ refusalOf
 image-refusal Good v = refl
 image-refusal OutsideRules v = refl
 image-refusal (BadHeader h) v = sym (bad-is (Unit {0}) (header.answerOf h tt)) ∙ bad-is Header (header.answerOf h tt)
-image-refusal TooLarge v = refl
 image-refusal WrongDigest v = refl
 
 -- a header's values in buffers of their lengths

@@ -17,9 +17,6 @@ returns-3 c = let o = c .before .before .o .given in rw (o .1) (c .of-header .en
 returns-4 : tie.Need-returns-4
 returns-4 c = rw (c .before .enum-told3 .given .1) (c .refuse3 .ensures)
 
-returns-5 : tie.Need-returns-5
-returns-5 c = rw (c .before .enum-told4 .given .1) (c .refuse4 .ensures)
-
 pub of-image-spec : {M : Type 1} → statement M
 of-image-spec =
     tie.close
@@ -32,10 +29,7 @@ of-image-spec =
     (λ c κs. search needs)
     (λ c. search needs)
     (λ c κs. search needs)
-    (λ c. search needs)
-    (λ c κs. search needs)
     returns
     returns-2
     returns-3
-    returns-4
-    returns-5)
+    returns-4)

@@ -16,9 +16,6 @@ returns-3 c =
 returns-4 : tie.Need-returns-4
 returns-4 c = rw (c .enum-told4 .given .1)
 
-returns-5 : tie.Need-returns-5
-returns-5 c = rw (c .enum-told5 .given .1)
-
 pub verdict-on-spec : {M : Type 1} → statement M
 verdict-on-spec =
     tie.close
@@ -27,9 +24,7 @@ verdict-on-spec =
     (λ c. search needs)
     (λ c. search needs)
     (λ c. search needs)
-    (λ c. search needs)
     returns
     returns-2
     returns-3
-    returns-4
-    returns-5)
+    returns-4)
