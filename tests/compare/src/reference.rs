@@ -98,6 +98,9 @@ fn required_length(kind: u16) -> Option<usize> {
 
 /// What stands at or after a place: a tag's place, type and length; or None for the end.
 pub fn next_tag(h: &[u8], mut p: usize) -> Result<Option<(usize, u16, usize)>, Refusal> {
+    if h.len() < HEADER {
+        return refuse(16, 0);
+    }
     while p < HEADER && h[p] == 0xFF {
         p += 1;
     }
@@ -348,6 +351,21 @@ fn legs(flags: &[u8]) -> Vec<Operation> {
     all
 }
 
+// ---- the first checks of every call on the flash
+
+/// BOOT's and UPDATE's status, or refusal 1 or 10.
+fn statuses(g: Geometry, f: &Flash) -> Result<(u8, u8), Refusal> {
+    if !f.fits(g) {
+        return refuse(1, 0);
+    }
+    let boot = *f.boot.last().unwrap();
+    let update = *f.update.last().unwrap();
+    if ![NEW, TESTING, SUCCESS].contains(&boot) || ![NEW, UPDATING].contains(&update) {
+        return refuse(10, 0);
+    }
+    Ok((boot, update))
+}
+
 // ---- power-up
 
 #[derive(Clone, Copy, Debug, PartialEq, Eq)]
@@ -380,14 +398,7 @@ fn planned(operations: Vec<Operation>, outcome: Outcome) -> Result<Plan, Outcome
 }
 
 pub fn plan(g: Geometry, f: &Flash) -> Result<Plan, Outcome> {
-    if !f.fits(g) {
-        return Err(Outcome::Refused(1, 0, 0));
-    }
-    let boot = *f.boot.last().unwrap();
-    let update = *f.update.last().unwrap();
-    if ![NEW, TESTING, SUCCESS].contains(&boot) || ![NEW, UPDATING].contains(&update) {
-        return Err(Outcome::Refused(10, 0, 0));
-    }
+    let (boot, update) = statuses(g, f).map_err(|r| Outcome::Refused(r.number, 0, 0))?;
     if update == NEW && boot != TESTING {
         return planned(vec![], Outcome::Run);
     }
@@ -459,18 +470,6 @@ pub fn power_up(g: Geometry, f: &mut Flash, budget: u64) -> Answer {
 }
 
 // ---- arm and confirm
-
-fn statuses(g: Geometry, f: &Flash) -> Result<(u8, u8), Refusal> {
-    if !f.fits(g) {
-        return refuse(1, 0);
-    }
-    let boot = *f.boot.last().unwrap();
-    let update = *f.update.last().unwrap();
-    if ![NEW, TESTING, SUCCESS].contains(&boot) || ![NEW, UPDATING].contains(&update) {
-        return refuse(10, 0);
-    }
-    Ok((boot, update))
-}
 
 pub fn arm(g: Geometry, f: &mut Flash) -> Result<u64, Refusal> {
     let (boot, update) = statuses(g, f)?;

@@ -1,0 +1,375 @@
+//! Demand 3 on bytes: exchanges that lose power, at every operation and in every way, and then run to their finish.
+use crate::call::{Call, Lent, LentFlash};
+use crate::inputs::*;
+use crate::random::Random;
+use crate::reference::*;
+use crate::report::{hex, Compare};
+
+/// How a loss of power leaves the operation that it breaks off.
+#[derive(Clone, Copy, Debug)]
+enum Tear {
+    Old,
+    AnyBytes,
+    New,
+}
+
+/// The ways in which this operation may be broken off; one way if there is none.
+fn tears(next: Option<Operation>) -> &'static [Tear] {
+    match next {
+        None => &[Tear::Old],
+        Some(op) if op.may_tear().is_some() => &[Tear::Old, Tear::AnyBytes, Tear::New],
+        Some(_) => &[Tear::Old, Tear::New],
+    }
+}
+
+/// A power-up of the list.
+#[derive(Clone, Debug)]
+enum Event {
+    Untorn { budget: u64 },
+    Lost { after: u64, next: Option<Operation>, tear: Tear },
+    WrongGeometry(Geometry),
+}
+
+/// Where a list has come to: the flash, the operations completed, the early ends, and the list.
+#[derive(Clone)]
+struct Stage {
+    flash: Flash,
+    done: u64,
+    early: u64,
+    list: Vec<Event>,
+}
+
+/// What was tried.
+#[derive(Default)]
+pub struct Tried {
+    pub single_cuts: u64,
+    pub pairs: u64,
+    pub lists: u64,
+}
+
+/// An update or a fallback, from its start.
+struct Job {
+    g: Geometry,
+    old: Flash,
+    fallback: bool,
+}
+
+/// Where a sector's two old contents stand by its flag.
+fn places(flag: u8) -> Option<(Area, Area)> {
+    match flag {
+        0xF => Some((Area::Boot, Area::Update)),
+        7 => Some((Area::Boot, Area::Swap)),
+        3 => Some((Area::Update, Area::Swap)),
+        0 => Some((Area::Update, Area::Boot)),
+        _ => None,
+    }
+}
+
+/// How far a flag has moved on.
+fn moves(flag: u8) -> usize {
+    [0xF, 7, 3, 0].iter().position(|f| *f == flag).unwrap_or(usize::MAX)
+}
+
+impl Job {
+    fn new(c: &Compare, g: Geometry, old: Flash, fallback: bool) -> Self {
+        let job = Job { g, old, fallback };
+        let start = job.start();
+        if job.finished(&start.flash) || plan(g, &start.flash).map_or(true, |p| p.reason.is_some()) {
+            job.broken(c, "no start of an exchange", &start, &start);
+        }
+        job
+    }
+
+    fn start(&self) -> Stage {
+        Stage { flash: self.old.clone(), done: 0, early: 0, list: Vec::new() }
+    }
+
+    fn finished(&self, f: &Flash) -> bool {
+        if self.fallback {
+            f.boot.last() == Some(&SUCCESS)
+        } else {
+            f.update.last() == Some(&NEW)
+        }
+    }
+
+    // ---- what has to hold
+
+    fn in_place(&self, f: &Flash) -> bool {
+        (0..self.g.m()).all(|i| match places(f.flag(self.g, i)) {
+            None => false,
+            Some((boot, update)) => self.stands(f, Area::Boot, boot, i) && self.stands(f, Area::Update, update, i),
+        })
+    }
+
+    fn stands(&self, f: &Flash, old: Area, now: Area, i: usize) -> bool {
+        self.old.sector(self.g, old, i) == f.sector(self.g, now, i)
+    }
+
+    fn exchanged(&self, f: &Flash) -> bool {
+        (0..self.g.m()).all(|i| self.stands(f, Area::Boot, Area::Update, i) && self.stands(f, Area::Update, Area::Boot, i))
+    }
+
+    /// An update ends with BOOT on test and UPDATE's trailer erased, a fallback with BOOT SUCCESS, UPDATE NEW and its flags 0.
+    fn closed(&self, f: &Flash) -> bool {
+        let trailer = f.sector(self.g, Area::Update, self.g.m());
+        if self.fallback {
+            f.boot.last() == Some(&SUCCESS) && f.update.last() == Some(&NEW) && f.flags(self.g).iter().all(|x| *x == 0)
+        } else {
+            f.boot.last() == Some(&TESTING) && trailer.iter().all(|b| *b == 0xFF)
+        }
+    }
+
+    /// Whether some flag moved on, if asked, and none moved back.
+    fn flags_moved(&self, before: &Flash, after: &Flash, some: bool) -> bool {
+        let pairs: Vec<(usize, usize)> =
+            (0..self.g.m()).map(|i| (moves(before.flag(self.g, i)), moves(after.flag(self.g, i)))).collect();
+        pairs.iter().all(|(a, b)| a <= b) && (!some || pairs.iter().any(|(a, b)| a < b))
+    }
+
+    fn holds(&self, c: &Compare, before: &Stage, after: &Stage, some_flag: bool) {
+        let bound = 9 * self.g.m() as u64 + if self.fallback { 1 } else { 3 } + 2 * after.early;
+        let f = &after.flash;
+        if after.done > bound {
+            self.broken(c, "more operations than the bound", before, after);
+        }
+        if self.finished(f) {
+            if !self.exchanged(f) {
+                self.broken(c, "the sectors are not exchanged at the finish", before, after);
+            }
+            if !self.closed(f) {
+                self.broken(c, "the trailers are wrong at the finish", before, after);
+            }
+        } else {
+            if !self.in_place(f) {
+                self.broken(c, "a sector is not where its flag says", before, after);
+            }
+            if !self.flags_moved(&before.flash, f, some_flag) {
+                self.broken(c, "a flag moved back, or none moved on", before, after);
+            }
+        }
+    }
+
+    fn broken(&self, c: &Compare, what: &str, before: &Stage, after: &Stage) -> ! {
+        println!("DEMAND 3 BROKEN: {what}; call {} of seed {}", c.calls, c.seed);
+        println!("{}, {:?}", if self.fallback { "fallback" } else { "update" }, self.g);
+        println!("{} operations, {} early ends: {:?}", after.done, after.early, after.list);
+        for (when, f) in [("start", &self.old), ("before", &before.flash), ("after", &after.flash)] {
+            for (name, b) in [("boot", &f.boot), ("update", &f.update), ("swap", &f.swap)] {
+                println!("  {name}, {when}: {}", hex(b, &format!("{}-{}-{when}-{name}", c.seed, c.calls)));
+            }
+        }
+        std::process::exit(1);
+    }
+
+    // ---- power-ups
+
+    /// The answer, the row and the flash, equal on both sides.
+    fn power_up(&self, c: &mut Compare, g: Geometry, f: &Flash, budget: u64) -> (u32, Vec<u64>, Flash) {
+        let answer = Lent::new(&[u64::MAX; 6]);
+        match c.call(Call::PowerUp { g, flash: LentFlash::new(f), budget, answer }) {
+            (number, Call::PowerUp { flash, answer, .. }) => (number, answer.to_vec(), flash.flash()),
+            _ => unreachable!(),
+        }
+    }
+
+    /// A power-up that loses no power. It is cut or finishes, and with a budget of three or more it gets on.
+    fn untorn(&self, c: &mut Compare, at: &Stage, budget: u64) -> Stage {
+        let (number, row, flash) = self.power_up(c, self.g, &at.flash, budget);
+        let mut next = Stage { flash, done: at.done + row[1], early: at.early, list: at.list.clone() };
+        next.list.push(Event::Untorn { budget });
+        let finish = if self.fallback { 4 } else { 3 };
+        let outcome = if self.finished(&next.flash) { finish } else { 1 };
+        if number != 0 || row[0] != outcome {
+            self.broken(c, &format!("the answer is {number}, {row:?}"), at, &next);
+        }
+        if outcome == 1 {
+            next.early += 1;
+        }
+        self.holds(c, at, &next, budget >= 3);
+        next
+    }
+
+    /// Power is lost after so many operations: every way in which the next one may be broken off.
+    fn lose(&self, c: &mut Compare, r: &mut Random, at: &Stage, after: u64, next: Option<Operation>) -> Vec<Stage> {
+        let (number, row, flash) = self.power_up(c, self.g, &at.flash, after);
+        let ways = tears(next).iter().map(|tear| {
+            let mut left = Stage { flash: flash.clone(), done: at.done + after, early: at.early + 1, list: at.list.clone() };
+            left.list.push(Event::Lost { after, next, tear: *tear });
+            match (next, *tear) {
+                (Some(op), Tear::New) => left.flash.perform(self.g, op),
+                (Some(op), Tear::AnyBytes) => {
+                    let (area, i) = op.may_tear().unwrap();
+                    left.flash.set_sector(self.g, area, i, &r.bytes(self.g.s));
+                }
+                _ => {}
+            }
+            if number != 0 || row[1] != after {
+                self.broken(c, &format!("the answer is {number}, {row:?}"), at, &left);
+            }
+            self.holds(c, at, &left, false);
+            left
+        });
+        ways.collect()
+    }
+
+    /// The operations that a power-up would do here.
+    fn operations(&self, c: &Compare, at: &Stage) -> Vec<Operation> {
+        match plan(self.g, &at.flash) {
+            Ok(plan) => plan.operations,
+            Err(outcome) => self.broken(c, &format!("{outcome:?}"), at, at),
+        }
+    }
+
+    /// Power lost at every operation and in every way.
+    fn every_loss(&self, c: &mut Compare, r: &mut Random, at: &Stage) -> Vec<Stage> {
+        let operations = self.operations(c, at);
+        (0..=operations.len()).flat_map(|k| self.lose(c, r, at, k as u64, operations.get(k).copied())).collect()
+    }
+
+    fn finish(&self, c: &mut Compare, at: &Stage) {
+        if !self.finished(&at.flash) {
+            let end = self.untorn(c, at, u64::MAX);
+            if !self.finished(&end.flash) {
+                self.broken(c, "no finish", at, &end);
+            }
+        }
+    }
+
+    /// To the finish by power-ups of three operations.
+    fn finish_by_threes(&self, c: &mut Compare, at: &Stage) {
+        let mut at = at.clone();
+        while !self.finished(&at.flash) {
+            at = self.untorn(c, &at, 3);
+        }
+    }
+
+    /// Every single cut and every pair, in all ways; then the rest, at once and by threes.
+    fn every_cut(&self, c: &mut Compare, r: &mut Random, tried: &mut Tried) {
+        self.finish(c, &self.start());
+        for first in self.every_loss(c, r, &self.start()) {
+            tried.single_cuts += 1;
+            if self.finished(&first.flash) {
+                continue;
+            }
+            self.finish(c, &first);
+            self.finish_by_threes(c, &first);
+            for second in self.every_loss(c, r, &first) {
+                tried.pairs += 1;
+                if !self.finished(&second.flash) {
+                    let third = self.untorn(c, &second, 3);
+                    self.finish(c, &third);
+                }
+            }
+        }
+    }
+
+    /// A cut at some operation in all ways, and the rest.
+    fn any_cut(&self, c: &mut Compare, r: &mut Random, tried: &mut Tried) {
+        let start = self.start();
+        let operations = self.operations(c, &start);
+        let k = r.below(operations.len());
+        for left in self.lose(c, r, &start, k as u64, operations.get(k).copied()) {
+            tried.single_cuts += 1;
+            self.finish(c, &left);
+        }
+    }
+
+    /// Another geometry is refused and changes nothing.
+    fn wrong_geometry(&self, c: &mut Compare, r: &mut Random, at: &Stage) -> Stage {
+        let mut g = self.g;
+        while g == self.g {
+            g = other_geometry(r, self.g);
+        }
+        let (number, row, flash) = self.power_up(c, g, &at.flash, r.next());
+        let mut next = Stage { flash, ..at.clone() };
+        next.list.push(Event::WrongGeometry(g));
+        if number != 1 || row != [0; 6] || next.flash != at.flash {
+            self.broken(c, &format!("the answer is {number}, {row:?}"), at, &next);
+        }
+        next
+    }
+
+    /// A list of any power-ups, up to the finish.
+    fn any_list(&self, c: &mut Compare, r: &mut Random) {
+        let mut at = self.start();
+        while !self.finished(&at.flash) {
+            let operations = self.operations(c, &at);
+            let some = r.within(0, operations.len());
+            let few = some.min(r.below(12));
+            at = match r.below(10) {
+                0 => self.wrong_geometry(c, r, &at),
+                1..=4 => {
+                    let k = r.pick(&[few, few, some]);
+                    let ways = self.lose(c, r, &at, k as u64, operations.get(k).copied());
+                    ways[r.below(ways.len())].clone()
+                }
+                _ => {
+                    let budget = r.pick(&[few, few, few, some]) as u64;
+                    self.untorn(c, &at, budget)
+                }
+            };
+        }
+    }
+}
+
+/// A good and newer update, armed, with this status of BOOT. What the trailers hold besides is left to chance.
+fn armed(r: &mut Random, g: Geometry, boot: u8) -> Flash {
+    let version = r.below(1000) as u32;
+    let mut f = Flash { boot: partition(r, g, version, 0), update: partition(r, g, version + 1, 0), swap: r.bytes(g.s) };
+    set_trailers(g, &mut f, boot, UPDATING, false);
+    f
+}
+
+/// The updates from BOOT NEW and from SUCCESS, the fallback from each, and a fallback with any bytes in the trailers.
+fn jobs(c: &Compare, r: &mut Random, g: Geometry) -> Vec<Job> {
+    let mut all = Vec::new();
+    for boot in [NEW, SUCCESS] {
+        let update = armed(r, g, boot);
+        let mut fallback = update.clone();
+        power_up(g, &mut fallback, u64::MAX);
+        all.push(Job::new(c, g, update, false));
+        all.push(Job::new(c, g, fallback, true));
+    }
+    let mut fallback = armed(r, g, NEW);
+    set_trailers(g, &mut fallback, TESTING, NEW, false);
+    all.push(Job::new(c, g, fallback, true));
+    all
+}
+
+/// Every cut and every pair of cuts for up to four firmware sectors.
+pub fn try_every_cut(c: &mut Compare, r: &mut Random) -> Tried {
+    let mut tried = Tried::default();
+    for m in 1..=4 {
+        for round in 1..=3 {
+            let s = 256 * if m == 1 { round + 1 } else { round };
+            for job in jobs(c, r, Geometry { n: m + 1, s }) {
+                job.every_cut(c, r, &mut tried);
+            }
+        }
+        println!("cuts with up to {m} firmware sectors: {} single, {} pairs, no difference", tried.single_cuts, tried.pairs);
+    }
+    tried
+}
+
+fn lists(c: &mut Compare, r: &mut Random, g: Geometry, tried: &mut Tried) {
+    for job in jobs(c, r, g) {
+        job.any_list(c, r);
+        tried.lists += 1;
+    }
+}
+
+/// Lists with many cuts, for up to 63 firmware sectors and for large ones; and a cut in the largest flash.
+pub fn try_lists(c: &mut Compare, r: &mut Random, tried: &mut Tried) {
+    for round in 0..400 {
+        let n = if round % 20 == 0 { r.within(2, 64) } else { r.within(2, 9) };
+        let s = 256 * r.within(2, 4);
+        lists(c, r, Geometry { n, s }, tried);
+    }
+    for (n, s) in [(64, 256), (2, 131_072), (3, 131_072)] {
+        lists(c, r, Geometry { n, s }, tried);
+    }
+    let largest = Geometry { n: 64, s: 131_072 };
+    let update = armed(r, largest, SUCCESS);
+    Job::new(c, largest, update, false).any_cut(c, r, tried);
+    println!("{} lists of power-ups, no difference", tried.lists);
+}

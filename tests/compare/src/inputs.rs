@@ -1,0 +1,354 @@
+//! Headers, images and flashes to try: good ones, and ones that are made for a refusal.
+use crate::random::Random;
+use crate::reference::*;
+
+type Tag = (u16, Vec<u8>);
+
+// ---- headers
+
+/// A header's values for this firmware.
+pub fn header(r: &mut Random, code: &[u8], version: u32) -> Header {
+    Header {
+        size: code.len() as u32,
+        version,
+        timestamp: any_timestamp(r),
+        digest: sha256(code),
+        signature: r.bytes(64).try_into().unwrap(),
+        auth_type: r.next() as u16,
+        hint: r.one_in(2).then(|| r.bytes(32).try_into().unwrap()),
+    }
+}
+
+pub fn any_version(r: &mut Random) -> u32 {
+    let any = r.next() as u32;
+    r.pick(&[0, 1, 2, 3, 3, 0x7FFF_FFFF, 0x8000_0000, u32::MAX, any])
+}
+
+fn any_timestamp(r: &mut Random) -> u64 {
+    let any = r.next();
+    r.pick(&[0, 1_700_000_000, u64::MAX, any, any, any])
+}
+
+fn table_tags(v: &Header) -> Vec<Tag> {
+    let mut tags = vec![
+        (0x0001, v.version.to_le_bytes().to_vec()),
+        (0x0002, v.timestamp.to_le_bytes().to_vec()),
+        (0x0003, v.digest.to_vec()),
+        (0x0020, v.signature.to_vec()),
+        (0x0030, v.auth_type.to_le_bytes().to_vec()),
+    ];
+    if let Some(hint) = v.hint {
+        tags.push((0x1000, hint.to_vec()));
+    }
+    tags
+}
+
+/// The bytes that are left for padding and other tags, with room for the end.
+fn room(tags: &[Tag]) -> usize {
+    let used: usize = tags.iter().map(|(_, value)| 4 + value.len()).sum();
+    HEADER.saturating_sub(8 + used + 2)
+}
+
+fn lengthen_or_shorten(r: &mut Random, tags: &mut [Tag]) {
+    let i = r.below(tags.len());
+    let right = tags[i].1.len();
+    let any = r.below(right + 8);
+    let length = r.pick(&[0, right - 1, right + 1, any]);
+    tags[i].1.resize(length, 0x11);
+}
+
+/// A tag once more, with the same or another value.
+fn repeat(r: &mut Random, tags: &mut Vec<Tag>) {
+    let fitting: Vec<Tag> = tags.iter().filter(|(_, value)| 4 + value.len() <= room(tags)).cloned().collect();
+    let (kind, mut value) = fitting[r.below(fitting.len())].clone();
+    if r.one_in(2) {
+        value = r.bytes(value.len());
+    }
+    tags.push((kind, value));
+}
+
+fn leave_out(r: &mut Random, tags: &mut Vec<Tag>) {
+    let required = r.below(5);
+    tags.remove(required);
+    while r.one_in(3) && !tags.is_empty() {
+        let i = r.below(tags.len());
+        tags.remove(i);
+    }
+}
+
+/// A type that is not in the table, often one that is close to it. Its low byte is not FF, which would be padding.
+fn other_type(r: &mut Random) -> u16 {
+    loop {
+        let any = r.next() as u16;
+        let kind = r.pick(&[0x0004, 0x0010, 0x0021, 0x0031, 0x0100, 0x0200, 0x0300, 0x1001, 0x2000, 0x3000, 0xFF00, 0xFFFE, any]);
+        if kind != 0 && kind & 0xFF != 0xFF && ![0x0001, 0x0002, 0x0003, 0x0020, 0x0030, 0x1000].contains(&kind) {
+            return kind;
+        }
+    }
+}
+
+fn add_other_tags(r: &mut Random, tags: &mut Vec<Tag>) {
+    while r.one_in(2) && room(tags) >= 4 {
+        let most = room(tags) - 4;
+        let any = r.below(most + 1);
+        let length = r.pick(&[0, most.min(1), most.min(6), any, most]);
+        tags.push((other_type(r), r.bytes(length)));
+    }
+}
+
+fn shuffle(r: &mut Random, tags: &mut [Tag]) {
+    for i in (1..tags.len()).rev() {
+        let j = r.below(i + 1);
+        tags.swap(i, j);
+    }
+}
+
+/// How much padding stands in each gap: none, a little, any amount, or all that there is room for, so that the end stands at 254.
+fn padding(r: &mut Random, gaps: usize, room: usize) -> Vec<usize> {
+    let any = r.within(0, room);
+    let mut left = r.pick(&[0, room.min(5), any, room]);
+    let mut all = vec![0; gaps];
+    while left > 0 {
+        let part = if r.one_in(2) { left } else { r.within(1, left) };
+        all[r.below(gaps)] += part;
+        left -= part;
+    }
+    all
+}
+
+fn put_tag(b: &mut Vec<u8>, kind: u16, length: u16, value: &[u8]) {
+    b.extend_from_slice(&kind.to_le_bytes());
+    b.extend_from_slice(&length.to_le_bytes());
+    b.extend_from_slice(value);
+}
+
+/// A last tag that goes beyond 256: of one to three bytes, or with a length that is too large.
+fn put_tag_that_does_not_fit(r: &mut Random, b: &mut Vec<u8>) {
+    let kind = if r.one_in(2) { other_type(r) } else { r.pick(&[0x0001, 0x0002, 0x0003, 0x0020, 0x0030, 0x1000]) };
+    let bytes_left = r.within(0, 3);
+    if bytes_left > 0 {
+        b.resize(HEADER - bytes_left, 0xFF);
+        let low = if bytes_left == 1 && r.one_in(2) { 0 } else { kind as u8 };
+        b.extend_from_slice(&[low, (kind >> 8) as u8, 0]);
+    } else {
+        let fitting = HEADER.saturating_sub(b.len() + 4) as u16;
+        let any = r.within(fitting as usize + 1, 0xFFFF) as u16;
+        let length = r.pick(&[fitting + 1, fitting + 1, 0xFFFF, any]);
+        put_tag(b, kind, length, &[]);
+    }
+}
+
+/// A tag whose last byte is the header's last, if there is room for one.
+fn fill_with_tag(r: &mut Random, b: &mut Vec<u8>) {
+    if b.len() + 4 <= HEADER {
+        let length = HEADER - b.len() - 4;
+        let value = r.bytes(length);
+        put_tag(b, other_type(r), length as u16, &value);
+    }
+}
+
+/// A header's bytes: the tags in any order, with padding and other tags. Made for the refusal `wrong` (2 to 8), or for none (0).
+pub fn header_bytes(r: &mut Random, v: &Header, wrong: u64) -> Vec<u8> {
+    let mut tags = table_tags(v);
+    match wrong {
+        5 => lengthen_or_shorten(r, &mut tags),
+        6 => repeat(r, &mut tags),
+        8 => leave_out(r, &mut tags),
+        _ => {}
+    }
+    if wrong == 5 && r.one_in(4) {
+        repeat(r, &mut tags);
+    }
+    add_other_tags(r, &mut tags);
+    if !r.one_in(4) {
+        shuffle(r, &mut tags);
+    }
+    let gaps = padding(r, tags.len() + 1, room(&tags));
+    let mut b = MAGIC.to_vec();
+    if wrong == 2 {
+        b[r.below(4)] ^= 1 << r.below(8);
+    }
+    b.extend_from_slice(&v.size.to_le_bytes());
+    for ((kind, value), gap) in tags.iter().zip(&gaps) {
+        b.resize(b.len() + gap, 0xFF);
+        put_tag(&mut b, *kind, value.len() as u16, value);
+    }
+    b.resize(b.len() + gaps[tags.len()], 0xFF);
+    match wrong {
+        4 => put_tag_that_does_not_fit(r, &mut b),
+        7 if r.one_in(2) => fill_with_tag(r, &mut b),
+        7 => {}
+        _ => b.extend_from_slice(&[0, 0]),
+    }
+    let any = r.next() as u8;
+    let rest = r.pick(&[0xFF, 0xFF, 0x00, any]);
+    b.resize(HEADER, if wrong == 7 { 0xFF } else { rest });
+    b
+}
+
+/// Changes one to three of the first `within` bytes.
+pub fn damage(r: &mut Random, b: &mut [u8], within: usize) {
+    for _ in 0..r.within(1, 3) {
+        let at = r.below(within);
+        let any = r.next() as u8;
+        b[at] = r.pick(&[0, 1, 2, 3, 4, 8, 0x10, 0x20, 0x30, 0x40, 0xFF, any, any, b[at].wrapping_add(1), b[at].wrapping_sub(1)]);
+    }
+}
+
+/// The refusal that a header or image is made for: mostly none, else one up to `most`.
+pub fn any_wrong(r: &mut Random, most: usize) -> u64 {
+    if r.one_in(3) {
+        r.within(2, most) as u64
+    } else {
+        0
+    }
+}
+
+// ---- images
+
+/// The largest firmware, one byte of it, or any size between; too large or 0 if that is to be wrong.
+fn firmware_size(r: &mut Random, most: usize, wrong: u64) -> u32 {
+    if wrong == 3 {
+        let above = most as u32 + 1;
+        let more = above + r.below(1000) as u32;
+        return r.pick(&[0, 0, above, above, more, u32::MAX]);
+    }
+    let any = r.within(1, most.max(1));
+    r.pick(&[most.max(1), 1, any, any]) as u32
+}
+
+/// A partition with an image, made for the refusal `wrong` (2 to 9), or for none (0). Its trailer holds any bytes.
+pub fn partition(r: &mut Random, g: Geometry, version: u32, wrong: u64) -> Vec<u8> {
+    let mut p = r.bytes(g.n * g.s);
+    let size = firmware_size(r, g.m() * g.s - HEADER, wrong);
+    let end = (HEADER + size as usize).min(p.len());
+    let mut v = header(r, &p[HEADER..end], version);
+    v.size = size;
+    if wrong == 9 {
+        let wrong_byte = r.pick(&[HEADER, end - 1]);
+        p[wrong_byte] ^= 1 << r.below(8);
+    }
+    let h = header_bytes(r, &v, wrong);
+    p[..HEADER].copy_from_slice(&h);
+    p
+}
+
+// ---- flashes
+
+/// Mostly a few small sectors; at times many, large, or both.
+pub fn geometry(r: &mut Random) -> Geometry {
+    if r.one_in(2000) {
+        Geometry { n: r.within(2, 64), s: 256 * r.within(1, 512) }
+    } else if r.one_in(250) {
+        Geometry { n: r.within(2, 4), s: 256 * r.within(1, 512) }
+    } else if r.one_in(25) {
+        Geometry { n: r.within(2, 64), s: 256 * r.within(1, 2) }
+    } else {
+        Geometry { n: r.within(2, 6), s: 256 * r.within(1, 3) }
+    }
+}
+
+/// Gives both trailers these statuses, UPDATE's flags F; every other byte of them is FF or stays.
+pub fn set_trailers(g: Geometry, f: &mut Flash, boot: u8, update: u8, erased: bool) {
+    if erased {
+        f.perform(g, Operation::EraseTrailer(Area::Boot));
+        f.perform(g, Operation::EraseTrailer(Area::Update));
+    }
+    for i in 0..g.m() {
+        f.perform(g, Operation::Flag(i, 0xF));
+    }
+    f.perform(g, Operation::Status(Area::Boot, boot));
+    f.perform(g, Operation::Status(Area::Update, update));
+}
+
+fn any_status(r: &mut Random, likely: &[u8]) -> u8 {
+    let any = r.next() as u8;
+    if r.one_in(20) {
+        r.pick(&[NEW, UPDATING, TESTING, SUCCESS, any])
+    } else {
+        r.pick(likely)
+    }
+}
+
+/// Flags as they stand after some moves, without the moves.
+fn set_flags(r: &mut Random, g: Geometry, f: &mut Flash) {
+    let any = r.within(0, 3 * g.m());
+    let moves = r.pick(&[any, 3 * g.m()]);
+    for i in 0..g.m() {
+        f.perform(g, Operation::Flag(i, [0xF, 7, 3, 0][moves.saturating_sub(3 * i).min(3)]));
+    }
+}
+
+/// A flash in any state, mostly a sensible one: at rest, armed, on test, or as a power-up left it that was cut.
+pub fn flash(r: &mut Random, g: Geometry) -> Flash {
+    let (old, new) = (any_version(r), any_version(r));
+    let (bad_boot, bad_update) = (any_wrong(r, 9), any_wrong(r, 9));
+    let mut f = Flash { boot: partition(r, g, old, bad_boot), update: partition(r, g, new, bad_update), swap: r.bytes(g.s) };
+    if r.one_in(20) {
+        return f;
+    }
+    let boot = any_status(r, &[NEW, SUCCESS, SUCCESS, TESTING]);
+    let update = any_status(r, &[NEW, UPDATING, UPDATING]);
+    let erased = r.one_in(2);
+    set_trailers(g, &mut f, boot, update, erased);
+    match r.below(8) {
+        0 | 1 => {
+            let budget = r.below(9 * g.m() + 4) as u64;
+            power_up(g, &mut f, budget);
+        }
+        2 => set_flags(r, g, &mut f),
+        3 => {
+            let i = r.below(g.m());
+            let flag = r.below(16) as u8;
+            f.perform(g, Operation::Flag(i, flag));
+        }
+        _ => {}
+    }
+    for p in [&mut f.boot, &mut f.update] {
+        if r.one_in(10) {
+            let within = r.pick(&[HEADER, p.len()]);
+            damage(r, p, within);
+        }
+    }
+    f
+}
+
+/// Sizes outside the rules, and buffers that fit them.
+pub fn flash_outside_rules(r: &mut Random) -> (Geometry, Flash) {
+    let small = [(0, 256), (1, 256), (65, 256), (100, 256), (2, 0), (3, 128), (3, 255), (3, 257), (3, 384), (2, 300)];
+    let (n, s) = if r.one_in(100) { (2, 131_328) } else { r.pick(&small) };
+    let mut f = Flash { boot: r.bytes(n * s), update: r.bytes(n * s), swap: r.bytes(s) };
+    if n * s > 0 {
+        f.boot[n * s - 1] = SUCCESS;
+        f.update[n * s - 1] = r.pick(&[NEW, UPDATING]);
+    }
+    (Geometry { n, s }, f)
+}
+
+/// Another geometry than the buffers have: some have the same product, some overflow.
+pub fn other_geometry(r: &mut Random, g: Geometry) -> Geometry {
+    let (n, s) = (g.n, g.s);
+    let others = [
+        (n + 1, s),
+        (n - 1, s),
+        (n, s + 256),
+        (n, s + 1),
+        (n, s - 256),
+        (2 * n, s / 2),
+        (n * s / 256, 256),
+        (s, n),
+        (2, n * s / 2),
+        (0, 0),
+        (0, s),
+        (n, 0),
+        (1, n * s),
+        (usize::MAX, s),
+        (n, usize::MAX),
+        (2, 1 << 63),
+        (1 << 56, 256),
+        ((1 << 32) + n, s),
+        (n, (1 << 32) + s),
+    ];
+    let (n, s) = r.pick(&others);
+    Geometry { n, s }
+}

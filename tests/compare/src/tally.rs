@@ -1,0 +1,194 @@
+//! How often each call gave each answer, and what has to be met in a run.
+use crate::call::Call;
+use crate::reference::{next_tag, HEADER};
+use std::collections::BTreeMap;
+
+const TYPES: [u16; 6] = [0x0001, 0x0002, 0x0003, 0x0020, 0x0030, 0x1000];
+
+#[derive(Default)]
+pub struct Tally {
+    /// By call and answer.
+    answers: BTreeMap<String, u64>,
+    /// By call and buffer, then by what is wrong with its length.
+    lengths: BTreeMap<String, BTreeMap<&'static str, u64>>,
+}
+
+impl Tally {
+    /// Counts a call: as it was asked, its answer, and as it was left.
+    pub fn add(&mut self, asked: &Call, number: u32, after: &Call) {
+        for what in answers(asked, number, after) {
+            *self.answers.entry(format!("{}: {what}", asked.name())).or_insert(0) += 1;
+        }
+        for (buffer, length, right) in asked.lengths() {
+            if length != right {
+                let wrong = self.lengths.entry(format!("{}: {buffer}", asked.name())).or_default();
+                *wrong.entry(wrong_length(length, right)).or_insert(0) += 1;
+            }
+        }
+    }
+
+    pub fn print(&self) {
+        for (what, times) in &self.answers {
+            println!("{times:9} {what}");
+        }
+        println!("  wrong lengths (refused 1):");
+        for (buffer, wrong) in &self.lengths {
+            let all: Vec<String> = wrong.iter().map(|(what, times)| format!("{times} {what}")).collect();
+            println!("    {buffer}: {}", all.join(", "));
+        }
+    }
+
+    /// What was never met of the answers that can be met, and of the wrong lengths.
+    pub fn missing(&self) -> Vec<String> {
+        let answers = answers_to_meet().into_iter().filter(|what| !self.answers.contains_key(what));
+        let met = |buffer: &str, wrong: &str| self.lengths.get(buffer).map_or(false, |all| all.contains_key(wrong));
+        let lengths = lengths_to_meet().into_iter().filter(|(buffer, wrong)| !met(buffer, wrong));
+        answers.chain(lengths.map(|(buffer, wrong)| format!("{buffer} {wrong}"))).collect()
+    }
+}
+
+// ---- what is counted
+
+fn answered(number: u32) -> String {
+    match number {
+        0 => "done".to_string(),
+        n => format!("refused {n:2}"),
+    }
+}
+
+fn wrong_length(length: usize, right: usize) -> &'static str {
+    if length == 0 {
+        "empty"
+    } else if length + 1 == right {
+        "one too short"
+    } else if length == right + 1 {
+        "one too long"
+    } else if length < right {
+        "too short"
+    } else {
+        "too long"
+    }
+}
+
+/// What is special in a header that was read.
+fn of_header(input: &[u8]) -> Vec<String> {
+    let mut all = Vec::new();
+    let (mut p, mut widest, mut kinds) = (8, 0, Vec::new());
+    while let Ok(Some((at, kind, length))) = next_tag(input, p) {
+        widest = widest.max(at - p);
+        kinds.push(kind);
+        p = at + 4 + length;
+    }
+    if widest > 3 {
+        all.push("done, padding of more than 3 before a tag".to_string());
+    }
+    if input[p..HEADER - 2].iter().all(|b| *b == 0xFF) {
+        all.push("done, end at 254".to_string());
+    }
+    if kinds.iter().any(|kind| !TYPES.contains(kind)) {
+        all.push("done, with other tags".to_string());
+    }
+    if kinds.contains(&0x1000) {
+        all.push("done, with a hint".to_string());
+    }
+    all
+}
+
+fn of_power_up(number: u32, row: &[u64]) -> Vec<String> {
+    let outcome = ["refused", "cut", "run", "run on test", "run, fallen back"][row[0] as usize];
+    let mut all = match number {
+        0 => vec![outcome.to_string()],
+        12 | 13 => vec![format!("refused {number} for {}", row[2])],
+        n => vec![answered(n)],
+    };
+    if number == 12 && row[1] > 0 {
+        all.push("refused 12 after operations".to_string());
+    }
+    if row[4] > 0 {
+        let beside = if number == 12 { "refused 12" } else { outcome };
+        all.push(format!("turned down for {:2}", row[4]));
+        all.push(format!("turned down, {beside}"));
+    }
+    all
+}
+
+fn answers(asked: &Call, number: u32, after: &Call) -> Vec<String> {
+    let mut all = match after {
+        Call::PowerUp { answer, .. } if answer.len() == 6 => of_power_up(number, answer),
+        Call::NextTag { tag, .. } if number == 0 => vec![if tag[1] == 1 { "tag" } else { "end" }.to_string()],
+        _ => vec![answered(number)],
+    };
+    if let (Call::ReadHeader { input, .. }, 0) = (asked, number) {
+        all.extend(of_header(input));
+    }
+    if asked.is_long() && number != 1 {
+        all.push("on long buffers".to_string());
+    }
+    all
+}
+
+// ---- what has to be met
+
+fn answers_to_meet() -> Vec<String> {
+    let numbers: [(&str, &[u32]); 8] = [
+        ("sha256", &[0, 1]),
+        ("read_header", &[0, 1, 2, 3, 4, 5, 6, 7, 8, 16]),
+        ("write_header", &[0, 1, 3, 16]),
+        ("next_tag", &[1, 4, 7, 16]),
+        ("check_image", &[0, 1, 2, 3, 4, 5, 6, 7, 8, 9]),
+        ("power_up", &[1, 10, 11]),
+        ("arm", &[0, 1, 10, 14]),
+        ("confirm", &[0, 1, 10, 11, 14]),
+    ];
+    let others = [
+        "next_tag: tag",
+        "next_tag: end",
+        "read_header: done, padding of more than 3 before a tag",
+        "read_header: done, end at 254",
+        "read_header: done, with other tags",
+        "read_header: done, with a hint",
+        "power_up: cut",
+        "power_up: run",
+        "power_up: run on test",
+        "power_up: run, fallen back",
+        "power_up: refused 12 after operations",
+        "power_up: turned down for 15",
+        "power_up: turned down, cut",
+        "power_up: turned down, run",
+        "power_up: turned down, refused 12",
+    ];
+    let mut all: Vec<String> = others.iter().map(|what| what.to_string()).collect();
+    for (call, answers) in numbers {
+        all.push(format!("{call}: on long buffers"));
+        all.extend(answers.iter().map(|n| format!("{call}: {}", answered(*n))));
+    }
+    for inner in 2..=9 {
+        all.push(format!("power_up: refused 12 for {inner}"));
+        all.push(format!("power_up: refused 13 for {inner}"));
+        all.push(format!("power_up: turned down for {inner:2}"));
+    }
+    all
+}
+
+fn lengths_to_meet() -> Vec<(String, &'static str)> {
+    let buffers: [(&str, &[&str]); 8] = [
+        ("sha256", &["digest"]),
+        ("read_header", &["numbers", "bytes"]),
+        ("write_header", &["bytes", "place"]),
+        ("next_tag", &["tag"]),
+        ("check_image", &["partition", "numbers", "bytes"]),
+        ("power_up", &["boot", "update", "swap", "answer"]),
+        ("arm", &["boot", "update", "swap", "count"]),
+        ("confirm", &["boot", "update", "swap", "count"]),
+    ];
+    let mut all = Vec::new();
+    for (call, names) in buffers {
+        for name in names {
+            // A row of one number that is one too short is empty.
+            let single = *name == "place" || *name == "count";
+            let wrong = ["empty", "one too long", "too long", "one too short"];
+            all.extend(wrong[..if single { 3 } else { 4 }].iter().map(|w| (format!("{call}: {name}"), *w)));
+        }
+    }
+    all
+}
