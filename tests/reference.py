@@ -1,8 +1,9 @@
-"""Document 01's rules for headers and images, once more: written from the paper, with no code of the library.
+"""Document 01's rules for headers, images, status bytes and flags, once more: written from the paper, with no code of the library.
 
 The scripts in this folder compare what the library's programs print with what this module says.
 """
 import hashlib
+import re
 
 HEADER = 256
 MAGIC = bytes([0x43, 0x45, 0x52, 0x54])
@@ -95,3 +96,26 @@ def check_image(n, s, partition):
     if hashlib.sha256(partition[HEADER : HEADER + h["size"]]).digest() != h["digest"]:
         raise Refused(9, HEADER)
     return h
+
+
+# The status bytes that BOOT and UPDATE may hold.
+STATUSES = {
+    "BOOT": {0xFF: "NEW", 0x10: "TESTING", 0x00: "SUCCESS"},
+    "UPDATE": {0xFF: "NEW", 0x70: "UPDATING"},
+}
+
+# The leg that a flag other than 0 shows.
+LEGS = {"f": "UPDATE to SWAP", "7": "BOOT to UPDATE", "3": "SWAP to BOOT"}
+
+
+def flags(m, trailer):
+    """What the flags of m firmware sectors show, at the end of a trailer: its last byte is the status."""
+    read = "".join(f"{trailer[-2 - i // 2] >> 4 * (i % 2) & 0xF:x}" for i in range(m))
+    if not re.fullmatch("0*[73]?f*", read):
+        return "not well formed"
+    if read == "f" * m:
+        return "all F"
+    if read == "0" * m:
+        return "all 0"
+    first = len(read) - len(read.lstrip("0"))
+    return f"sector {first} {LEGS[read[first]]}"
