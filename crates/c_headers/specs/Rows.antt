@@ -7,15 +7,15 @@ use Rattle.tags.specs.Walk.{Item, tag, end}
 use Rattle.c_headers.specs.Numbers.{bitOf}
 
 -- A header's values: the numbers, behind the place of a refusal, and the bytes.
-abbrev pub numbersOf : ℕ → Header → List ℕ
-numbersOf place v =
+abbrev pub headerNumbers : ℕ → Header → List ℕ
+headerNumbers place v =
     place ∷ v .size ∷ v .version ∷ v .timestamp ∷ v .«auth_type» ∷ bitOf (v .«has_hint») ∷ []
 
 abbrev pub bytesOf : Header → List ℕ
 bytesOf v = v .digest ++ (v .signature ++ v .hint)
 
 -- Of a tag: the place of a refusal; 1 for a tag; the tag's place, type and length; and the place to go on from.
-abbrev pub rowOf : Answer Item → ℕ → List ℕ
-rowOf (gives (tag q t n)) next = 0 ∷ 1 ∷ q ∷ t ∷ n ∷ next ∷ []
-rowOf (gives end) next = 0 ∷ 0 ∷ 0 ∷ 0 ∷ 0 ∷ next ∷ []
-rowOf (refused m q) next = q ∷ 0 ∷ 0 ∷ 0 ∷ 0 ∷ next ∷ []
+abbrev pub tagRow : Answer Item → ℕ → List ℕ
+tagRow (gives (tag q t n)) next = 0 ∷ 1 ∷ q ∷ t ∷ n ∷ next ∷ []
+tagRow (gives end) next = 0 ∷ 0 ∷ 0 ∷ 0 ∷ 0 ∷ next ∷ []
+tagRow (refused m q) next = q ∷ 0 ∷ 0 ∷ 0 ∷ 0 ∷ next ∷ []

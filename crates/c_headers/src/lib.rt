@@ -11,7 +11,7 @@ ghost use lib.ListN.{length};
 ghost use Rattle.header_writer.specs.Writing as writer;
 ghost use Rattle.tags.specs.Walk.{itemOf};
 ghost use Rattle.c_headers.specs.Numbers.{refusedAt, refusalOf, headerRefusal, imageRefusal, bitOf};
-ghost use Rattle.c_headers.specs.Rows.{numbersOf, bytesOf, rowOf};
+ghost use Rattle.c_headers.specs.Rows.{headerNumbers, bytesOf, tagRow};
 
 // Both are 0 where nothing is refused.
 pub struct Refused {
@@ -83,7 +83,7 @@ pub fn of_tag(t: Tag) -> u32
 
 // The row of a tag, behind the place of a refusal.
 pub fn tag_row(t: Tag, next: u64) -> [u64; 6]
-    ensures { λ r. ⌜ r ≡ rowOf (itemOf t) next ⌝ }
+    ensures { λ r. ⌜ r ≡ tagRow (itemOf t) next ⌝ }
 {
     match t {
         Tag::Found {
@@ -139,7 +139,7 @@ fn put_parts(out: &mut [u8], digest: [u8; 32], signature: [u8; 64], hint: [u8; 3
 // A header's values, behind the place of a refusal.
 pub fn put_header(numbers: &mut [u64], bytes: &mut [u8], place: u64, v: Header)
     requires { ⌜ (length (now numbers) ≡ 6) × (length (now bytes) ≡ 128) ⌝ }
-    ensures { λ _. ⌜ (now (numbers .exit) ≡ numbersOf place v) × (now (bytes .exit) ≡ bytesOf v) ⌝ }
+    ensures { λ _. ⌜ (now (numbers .exit) ≡ headerNumbers place v) × (now (bytes .exit) ≡ bytesOf v) ⌝ }
 {
     let row = [
         place,

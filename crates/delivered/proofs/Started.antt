@@ -16,19 +16,19 @@ use Rattle.exchange.specs.Demand.{update, fallback, Starts}
 use Rattle.exchange.specs.Cases.{three}
 use Rattle.exchange.proofs.Reached.{finish-reached}
 use Rattle.decision.specs.Numbers.{checkOf}
-use Rattle.delivered.specs.Witness.{partitionOf, armed, onTest, Witness, Witnesses}
+use Rattle.delivered.specs.Witness.{imagePartition, armed, onTest, Witness, Witnesses}
 use Rattle.delivered.proofs.Delivered.{reads-firmware}
 
 armed-starts : Starts checkOf update three armed
 unfolding
-    armed partitionOf headerBytes fieldBytes sha256 bytes hash compress nextHash rounds round schedule nextWord H0 words word block pad padding zeros K σ₁ σ₀ Σ₁ Σ₀ Maj Ch bigEndian first
+    armed imagePartition headerBytes fieldBytes sha256 bytes hash compress nextHash rounds round schedule nextWord H0 words word block pad padding zeros K σ₁ σ₀ Σ₁ Σ₀ Maj Ch bigEndian first
     decide fits partitionFits withinLimits statusByte bootStatusOf updateStatusOf flagsAt flagsShown pastZeros allF flags flagsFrom flagAt half flagByte flagOf firmware
     checkOf imageIn same readHeader placesIn judge rowOf tagsFrom itemFrom itemAt
 armed-starts = record { decided = refl; flagsF = refl }
 
 on-test-starts : Starts checkOf fallback three onTest
 unfolding
-    onTest partitionOf headerBytes fieldBytes sha256 bytes hash compress nextHash rounds round schedule nextWord H0 words word block pad padding zeros K σ₁ σ₀ Σ₁ Σ₀ Maj Ch bigEndian first
+    onTest imagePartition headerBytes fieldBytes sha256 bytes hash compress nextHash rounds round schedule nextWord H0 words word block pad padding zeros K σ₁ σ₀ Σ₁ Σ₀ Maj Ch bigEndian first
     decide fits partitionFits withinLimits statusByte bootStatusOf updateStatusOf flagsAt flagsShown pastZeros allF flags flagsFrom flagAt half flagByte flagOf firmware
     checkOf imageIn same readHeader placesIn judge rowOf tagsFrom itemFrom itemAt
 on-test-starts = record { decided = refl; flagsF = refl }

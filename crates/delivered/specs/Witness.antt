@@ -29,15 +29,15 @@ headerOf version =
       hint = replicate 32 0;
     }
 
-unfoldable pub partitionOf : ℕ → ℕ → List ℕ
-partitionOf version status = headerBytes (headerOf version) ++ (version ∷ replicate 255 0) ++ (replicate 255 0xFF ++ status ∷ [])
+unfoldable pub imagePartition : ℕ → ℕ → List ℕ
+imagePartition version status = headerBytes (headerOf version) ++ (version ∷ replicate 255 0) ++ (replicate 255 0xFF ++ status ∷ [])
 
 -- Version 8 armed over version 7; and version 7 on test, with version 6 to fall back to.
 unfoldable pub armed : Flash
-armed = flash (partitionOf 7 0x00) (partitionOf 8 0x70) (replicate 256 0)
+armed = flash (imagePartition 7 0x00) (imagePartition 8 0x70) (replicate 256 0)
 
 unfoldable pub onTest : Flash
-onTest = flash (partitionOf 7 0x10) (partitionOf 6 0xFF) (replicate 256 0)
+onTest = flash (imagePartition 7 0x10) (imagePartition 6 0xFF) (replicate 256 0)
 
 pub record Witness (x : Exchange) (f : Flash) : Type 0 where
   pub starts : Starts checkOf x three f

@@ -51,10 +51,10 @@ itemOf (DoesNotFit p) = refused 4 p
 itemOf (NoEnd p) = refused 7 p
 
 -- Where the walk goes on: behind a tag. At the end and after a refusal it stays, so that the same answer comes again.
-abbrev pub placeAfter : Answer Item → ℕ → ℕ
-placeAfter (gives (tag q t n)) p = q + 4 + n
-placeAfter (gives end) p = p
-placeAfter (refused m q) p = p
+abbrev pub placeBehind : Answer Item → ℕ → ℕ
+placeBehind (gives (tag q t n)) p = q + 4 + n
+placeBehind (gives end) p = p
+placeBehind (refused m q) p = p
 
 -- The offered walk, over a lent buffer: its first 256 bytes are the header; fewer are refusal 16.
 unfoldable pub walkAt : List ℕ → ℕ → Answer Item

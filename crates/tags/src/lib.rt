@@ -2,7 +2,7 @@
 ghost use mathlib.Core.Path.{_≡_};
 ghost use Prim.Native.Nat.{_+_, _*_, _<_, _≤_};
 ghost use lib.ListN.{length};
-ghost use Rattle.tags.specs.Walk.{itemAt, nextItem, itemOf, walkAt, placeAfter};
+ghost use Rattle.tags.specs.Walk.{itemAt, nextItem, itemOf, walkAt, placeBehind};
 
 // The length of a header in bytes.
 pub const HEADER_LENGTH: usize = 256;
@@ -113,7 +113,7 @@ pub fn walk_at(s: &[u8], at: usize) -> Tag
 
 // Where the walk goes on from a place: behind the tag found, and at the end or after a refusal at the same place.
 pub fn next_place(s: &[u8], at: usize) -> usize
-    ensures { λ r. ⌜ r ≡ placeAfter (walkAt (now (s .entry)) at) at ⌝ }
+    ensures { λ r. ⌜ r ≡ placeBehind (walkAt (now (s .entry)) at) at ⌝ }
 {
     let t = walk_at(s, at);
     match t {

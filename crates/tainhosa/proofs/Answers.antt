@@ -27,11 +27,11 @@ use Rattle.loader.specs.declared.PowerUpAnswer.{PowerUpAnswer}
 use Rattle.loader.specs.Loader.{outcomeOf, answered}
 use Rattle.commands.specs.declared.CommandAnswer.{CommandAnswer}
 use Rattle.commands.specs.Numbers.{commandOf, commanded}
-use Rattle.tags.specs.Walk.{Item, walkAt, placeAfter}
+use Rattle.tags.specs.Walk.{Item, walkAt, placeBehind}
 use Rattle.c_headers.specs.declared.Refused.{Refused}
 use Rattle.c_loading.specs.declared.Ended.{Ended}
 use Rattle.c_headers.specs.Numbers.{refusalOf, headerRefusal, imageRefusal}
-use Rattle.c_headers.specs.Rows.{numbersOf, bytesOf, rowOf}
+use Rattle.c_headers.specs.Rows.{headerNumbers, bytesOf, tagRow}
 use Rattle.c_loading.specs.Outcomes.{endedOf, reasonRefusal, countOf, powerRow}
 use Rattle.c_headers.proofs.Refusals.{bad-is}
 use Rattle.tainhosa.specs.Headers.{Given, given, laidOut, readAnswer, checkAnswer, Wrote, wrote, writeAnswer}
@@ -57,7 +57,7 @@ image-refusal (BadHeader h) v = sym (bad-is (Unit {0}) (header.answerOf h tt)) �
 image-refusal WrongDigest v = refl
 
 -- a header's values in buffers of their lengths
-pub laid : (n b n′ b′ : List ℕ) (x : Refused) (v : Header) → length n ≡ 6 → length b ≡ 128 → n′ ≡ numbersOf (x .place) v → b′ ≡ bytesOf v
+pub laid : (n b n′ b′ : List ℕ) (x : Refused) (v : Header) → length n ≡ 6 → length b ≡ 128 → n′ ≡ headerNumbers (x .place) v → b′ ≡ bytesOf v
     → _≡_ {A = Given} (record { answer = x .number; numbers = n′; bytes = b′ }) (given x v n b)
 laid n b n′ b′ x v p q en eb = rw (eq-eqb (length n) 6 p, eq-eqb (length b) 128 q, en, eb)
 
@@ -94,11 +94,11 @@ abbrev walk : ℕ → List ℕ → Walked
 walk n r = record { answer = n; row = r }
 
 pub walked-on : (s : List ℕ) (p : ℕ) (row row′ : List ℕ) (a : Answer Item) (x next : ℕ) → length row ≡ 6
-    → a ≡ walkAt s p → next ≡ placeAfter (walkAt s p) p → row′ ≡ rowOf a next → x ≡ refusalOf a .number
+    → a ≡ walkAt s p → next ≡ placeBehind (walkAt s p) p → row′ ≡ tagRow a next → x ≡ refusalOf a .number
     → walk x row′ ≡ tagAnswer s p row
 walked-on s p row row′ a x next h e en er ex =
     rw (eq-eqb (length row) 6 h)
-    (ap₂ walk (ex ∙ ap (λ (i : Answer Item). refusalOf i .number) e) (er ∙ ap₂ rowOf e en))
+    (ap₂ walk (ex ∙ ap (λ (i : Answer Item). refusalOf i .number) e) (er ∙ ap₂ tagRow e en))
 
 -- ---- power-up, arm and confirm
 

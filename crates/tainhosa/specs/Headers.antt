@@ -11,7 +11,7 @@ use Rattle.header_writer.specs.Writing.{Write, writeHeader}
 use Rattle.image.specs.Check.{checkImage}
 use Rattle.c_headers.specs.declared.Refused.{Refused}
 use Rattle.c_headers.specs.Numbers.{refusalOf}
-use Rattle.c_headers.specs.Rows.{numbersOf, bytesOf}
+use Rattle.c_headers.specs.Rows.{headerNumbers, bytesOf}
 
 -- The answer, and the caller's two buffers as the call returns.
 pub record Given : Type 0 where
@@ -23,7 +23,7 @@ pub record Given : Type 0 where
 abbrev pub given : Refused → Header → List ℕ → List ℕ → Given
 given x v n b =
     cond (eqb (length n) 6 && eqb (length b) 128)
-    (record { answer = x .number; numbers = numbersOf (x .place) v; bytes = bytesOf v })
+    (record { answer = x .number; numbers = headerNumbers (x .place) v; bytes = bytesOf v })
     (record { answer = 1; numbers = n; bytes = b })
 
 -- 0 and the header's values, or a refusal, its place, and blank values.

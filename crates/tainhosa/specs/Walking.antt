@@ -5,9 +5,9 @@ use mathlib.Core.List.{List}
 use lib.Dec.{eqb}
 use lib.ListN.{length}
 use Rattle.refusals.specs.Answer.{Answer}
-use Rattle.tags.specs.Walk.{Item, walkAt, placeAfter}
+use Rattle.tags.specs.Walk.{Item, walkAt, placeBehind}
 use Rattle.c_headers.specs.Numbers.{refusalOf}
-use Rattle.c_headers.specs.Rows.{rowOf}
+use Rattle.c_headers.specs.Rows.{tagRow}
 
 -- The answer, and the caller's row as the call returns.
 pub record Walked : Type 0 where
@@ -15,7 +15,7 @@ pub record Walked : Type 0 where
   pub row : List ℕ
 
 abbrev pub walked : Answer Item → ℕ → Walked
-walked a p = record { answer = refusalOf a .number; row = rowOf a (placeAfter a p) }
+walked a p = record { answer = refusalOf a .number; row = tagRow a (placeBehind a p) }
 
 -- The row has 6 numbers; else 1, and it stays as it was.
 abbrev pub tagAnswer : List ℕ → ℕ → List ℕ → Walked

@@ -4,12 +4,12 @@ use Prim.Native.Nat.{ℕ, zero, suc, _+_, _≤_}
 use mathlib.Core.List.{List}
 use native.Mathlib.Omega.{arith}
 use Rattle.refusals.specs.Answer.{Answer, gives, refused}
-use Rattle.tags.specs.Walk.{Item, tag, end, walkAt, placeAfter}
+use Rattle.tags.specs.Walk.{Item, tag, end, walkAt, placeBehind}
 use Rattle.walker.specs.Claims.{Stops, placeAfterCalls, Repeats, Ends}
 use Rattle.walker.proofs.Answers.{within}
 
 -- where the walk stops, the place stays
-stays : (a : Answer Item) (p : ℕ) → Stops a → placeAfter a p ≡ p
+stays : (a : Answer Item) (p : ℕ) → Stops a → placeBehind a p ≡ p
 stays (gives (tag q t n)) p e = absurd e
 stays (gives end) p _ = refl
 stays (refused m q) p _ = refl
@@ -32,7 +32,7 @@ module _ (s : List ℕ) (p : ℕ) where
   no-room e (refused m q) d = tt
 
   one-call : (n : ℕ) → 256 ≤ p + suc n → ((r : ℕ) → 256 ≤ r + n → Stops (walkAt s (placeAfterCalls s n r))) → (a : Answer Item) → walkAt s p ≡ a
-      → Stops (walkAt s (placeAfterCalls s n (placeAfter a p)))
+      → Stops (walkAt s (placeAfterCalls s n (placeBehind a p)))
   one-call n e ih (gives (tag q t k)) d = let w = within s p q t k d in ih (q + 4 + k) (omega arith)
   one-call n e ih (gives end) d = stopped n (gives end) d tt
   one-call n e ih (refused m q) d = stopped n (refused m q) d tt

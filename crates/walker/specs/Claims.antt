@@ -5,7 +5,7 @@ use mathlib.Core.List.{List, _++_}
 use mathlib.Core.Logic.{_⊎_}
 use lib.ListN.{length}
 use Rattle.refusals.specs.Answer.{Answer, gives, refused}
-use Rattle.tags.specs.Walk.{firstTag, Item, tag, end, walkAt, placeAfter}
+use Rattle.tags.specs.Walk.{firstTag, Item, tag, end, walkAt, placeBehind}
 
 -- Of the refusals only three numbers come: 16, at place 0; 4; and 7, at place 256. The reader's 2, 3, 5, 6 and 8 do not.
 abbrev pub Offered : Answer Item → Type 0
@@ -24,7 +24,7 @@ Stops (refused m q) = Unit {0}
 -- Where a walker over s stands n calls after it stood at p.
 abbrev pub placeAfterCalls : List ℕ → ℕ → ℕ → ℕ
 placeAfterCalls s zero p = p
-placeAfterCalls s (suc n) p = placeAfterCalls s n (placeAfter (walkAt s p) p)
+placeAfterCalls s (suc n) p = placeAfterCalls s n (placeBehind (walkAt s p) p)
 
 -- Asked again after the end or a refusal, however often, the walker gives the same answer.
 abbrev pub Repeats : Type 0

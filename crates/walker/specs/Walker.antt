@@ -3,7 +3,7 @@ use Prim.Native.Nat.{ℕ}
 use mathlib.Core.List.{List}
 use denote.Ref.{RefT, now}
 use Rattle.refusals.specs.Answer.{Answer}
-use Rattle.tags.specs.Walk.{firstTag, Item, walkAt, placeAfter}
+use Rattle.tags.specs.Walk.{firstTag, Item, walkAt, placeBehind}
 use Rattle.walker.specs.declared.TagWalker.{TagWalker}
 
 -- A walker over a lent header, before its first call.
@@ -15,4 +15,4 @@ abbrev pub answerOf : TagWalker → Answer Item
 answerOf w = walkAt (now (w .header)) (w .at)
 
 abbrev pub afterOf : TagWalker → TagWalker
-afterOf w = record { header = w .header; at = placeAfter (answerOf w) (w .at) }
+afterOf w = record { header = w .header; at = placeBehind (answerOf w) (w .at) }

@@ -2,15 +2,15 @@ use mathlib.Core.Path.{_≡_, ap, sym, _∙_}
 use Prim.Native.Nat.{ℕ, _+_, _<_, _≤_}
 use native.Mathlib.Omega.{arith}
 use Rattle.refusals.specs.Answer.{Answer}
-use Rattle.tags.specs.Walk.{Item, itemOf, placeAfter}
+use Rattle.tags.specs.Walk.{Item, itemOf, placeBehind}
 use Rattle.tags.specs.declared.Tag.{Tag}
 use Rattle.tags.proofs.Laws.{walk-within}
 use borrow.Author.Needs.{needs}
 use Rattle.tags.proofs.next_place.Statement.{statement}
 use Rattle.tags.proofs.next_place.Tie as tie
 
-went : {t u : Tag} {s : Answer Item} (at : ℕ) → t ≡ u → itemOf t ≡ s → placeAfter (itemOf u) at ≡ placeAfter s at
-went at e g = ap (λ x. placeAfter (itemOf x) at) (sym e) ∙ ap (λ x. placeAfter x at) g
+went : {t u : Tag} {s : Answer Item} (at : ℕ) → t ≡ u → itemOf t ≡ s → placeBehind (itemOf u) at ≡ placeBehind s at
+went at e g = ap (λ x. placeBehind (itemOf x) at) (sym e) ∙ ap (λ x. placeBehind x at) g
 
 add-result : tie.Need-add-result
 add-result c =
