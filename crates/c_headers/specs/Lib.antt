@@ -1,3 +1,3 @@
--- The numbers and rows of a header, an image check and a tag.
+-- The numbers and rows of a header read or written, an image check and a tag.
 pub mod Numbers
 pub mod Rows

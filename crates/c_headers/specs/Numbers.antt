@@ -8,6 +8,7 @@ use Rattle.image.specs.declared.ImageOutcome.{ImageOutcome}
 use Rattle.image.specs.Check as image
 use Rattle.c_headers.specs.declared.Refused.{Refused}
 
+-- A number and a place.
 abbrev pub refusedAt : ℕ → ℕ → Refused
 refusedAt n p = record { number = n; place = p }
 

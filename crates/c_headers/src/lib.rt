@@ -1,4 +1,4 @@
-// The numbers and rows by which a C caller gets a header, an image check and a tag.
+// The numbers and rows by which a C caller gets a header read or written, an image check and a tag.
 use header::Header;
 use header_writer::WriteOutcome;
 use image::ImageOutcome;

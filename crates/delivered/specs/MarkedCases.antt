@@ -12,12 +12,15 @@ pub data MarkedCase : Type 0 where
   ofExchange : ExchangeCase → MarkedCase
   ofHeader : HeaderCase → MarkedCase
 
+-- What a case says, of the delivered check.
 abbrev pub Holds : MarkedCase → Type 0
 Holds (ofExchange c) = exchange.Holds checkOf c
 Holds (ofHeader c) = header.Holds c
 
+-- The one list.
 abbrev pub markedCases : List MarkedCase
 markedCases = map ofExchange exchangeCases ++ map ofHeader headerCases
 
+-- The one claim over it.
 abbrev pub MarkedCases : Type 0
 MarkedCases = Every Holds markedCases

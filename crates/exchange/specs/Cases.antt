@@ -22,9 +22,11 @@ use Rattle.exchange.specs.Decision.{Check}
 use Rattle.exchange.specs.PowerUp.{Outcome, refusal, cut, runsOnTest, runsFallenBack, powerUp}
 use Rattle.exchange.specs.Demand.{Exchange, update, fallback, ReadsFirmware}
 
+-- n = 3 and S = 256.
 abbrev pub three : Geometry
 three = geometry 3 256
 
+-- The flag byte, which holds both flags.
 abbrev pub flagByteOf : Flash → ℕ
 flagByteOf f = getD (f .update) 766 0
 
@@ -51,6 +53,7 @@ pub record FallbackReady (check : Check) (f : Flash) : Type 0 where
   pub version : ℕ
   pub updateGood : check three (f .update) ≡ gives version
 
+-- By the kind of exchange.
 abbrev pub Ready : Exchange → Check → Flash → Type 0
 Ready update check f = UpdateReady check f
 Ready fallback check f = FallbackReady check f
@@ -89,10 +92,12 @@ pub data ExchangeCase : Type 0 where
   -- a flag byte of an update with BOOT SUCCESS, and whether it is refusal 11
   malformed : ℕ → Bool → ExchangeCase
 
+-- The flag byte is the one that the case names, if it names one.
 abbrev pub FlagByteIs : Option ℕ → Flash → Type 0
 FlagByteIs none f = Unit {0}
 FlagByteIs (some b) f = flagByteOf f ≡ b
 
+-- Power-ups with the budgets bs, from the flash f on, leave what the case says.
 pub record LeavesAs (check : Check) (f : Flash) (bs : List ℕ) (l : Leaves) : Type 0 where
   pub counted : counts check f bs ≡ l .counted
   pub outcome : lastOutcome check f bs cut ≡ l .outcome
@@ -100,6 +105,7 @@ pub record LeavesAs (check : Check) (f : Flash) (bs : List ℕ) (l : Leaves) : T
   pub bootStatus : bootStatusAt three (after check f bs .boot) ≡ gives (l .bootStatus)
   pub updateStatus : updateStatusAt three (after check f bs .update) ≡ gives (l .updateStatus)
 
+-- Refusal 11, or another outcome than refusal 11.
 abbrev pub Is11 : Bool → Outcome → Type 0
 Is11 true o = o ≡ refusal 11 0 0
 Is11 false o = (i p : ℕ) → ¬ (o ≡ refusal 11 i p)

@@ -52,9 +52,11 @@ mayArm BootNew Updating = refused 14 0
 mayArm Success Updating = refused 14 0
 mayArm Testing Updating = refused 14 0
 
+-- Arm erases the UPDATE trailer sector, then writes UPDATING.
 abbrev pub armOperations : List Operation
 armOperations = EraseUpdateTrailer ∷ WriteUpdateStatus Updating ∷ []
 
+-- Arm, whole: its checks, and then both operations or a refusal.
 unfoldable pub arm : Geometry → Flash → Command
 arm g f = command g armOperations (checked g f mayArm) f
 
@@ -73,8 +75,10 @@ mayConfirm flags BootNew Updating = refused 14 0
 mayConfirm flags Success Updating = refused 14 0
 mayConfirm flags Testing Updating = refused 14 0
 
+-- Confirm writes SUCCESS in BOOT.
 abbrev pub confirmOperations : List Operation
 confirmOperations = WriteBootStatus Success ∷ []
 
+-- Confirm, whole.
 unfoldable pub confirm : Geometry → Flash → Command
 confirm g f = command g confirmOperations (checked g f (mayConfirm (flagsAt g (f .update)))) f

@@ -41,6 +41,7 @@ abbrev pub outcomeBy : Next → Job → Answer ℕ → Outcome
 outcomeBy (Do o) job boot = cut
 outcomeBy Nothing job boot = ifBootGood (doneOutcome job) boot
 
+-- What a job answers and leaves after its run of steps; the reason stands beside whatever outcome.
 abbrev pub worked : Check → Geometry → Job → Reason → Run → PowerUp
 worked check g job reason r =
     record {
@@ -50,6 +51,7 @@ worked check g job reason r =
       flash = r .flash;
     }
 
+-- Without an operation: no byte is changed, and 0 are counted.
 abbrev pub idle : Outcome → Flash → PowerUp
 idle o f = record { outcome = o; reason = noReason; count = 0; flash = f }
 
@@ -59,6 +61,7 @@ carryOut check g f budget (refuse n i p) = idle (refusal n i p) f
 carryOut check g f budget plain = idle (ifBootGood runs (check g (f .boot))) f
 carryOut check g f budget (work job reason) = worked check g job reason (run job g budget 0 f)
 
+-- A power-up, whole: what the checks decide, carried out within the budget.
 unfoldable pub powerUp : Check → Geometry → Flash → ℕ → PowerUp
 powerUp check g f budget = carryOut check g f budget (decide check g f)
 

@@ -24,12 +24,14 @@ roughList g t budget =
     ∷ record { geometry = g; budget = budget; ending = untorn }
     ∷ []
 
+-- What holds of that list, from the flash f on.
 pub record Reached (check : Check) (x : Exchange) (g : Geometry) (f : Flash) (t : Torn) (budget : ℕ) : Type 0 where
   pub firstRefused : (powerUp check (geometry 0 0) f budget) .outcome ≡ refusal 1 0 0
   pub copyTorn : nextAfter check g f 1 ≡ Do (Copy UpdateToSwap (sectorNumber 0))
   pub allowed : Allowed check x g f (roughList g t budget)
   pub finished : Finished x g (flashAfter check f (roughList g t budget))
 
+-- From every start, for all torn bytes and every budget that is enough.
 abbrev pub FinishReached : Type 0
 FinishReached =
     (check : Check) (x : Exchange) (g : Geometry) (f : Flash) → ReadsFirmware check g → Starts check x g f → (t : Torn) → length (t .bytes) ≡ g .size

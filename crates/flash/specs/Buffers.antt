@@ -9,6 +9,7 @@ use Rattle.refusals.specs.Answer.{Answer}
 use Rattle.flash.specs.declared.Geometry.{Geometry}
 use Rattle.flash.specs.Sizes.{geometry, partitionSize, withinLimits, Limits, geometryWhere}
 
+-- BOOT, UPDATE and SWAP, as their bytes
 pub record Flash : Type 0 where
   pub boot : List ℕ
   pub update : List ℕ

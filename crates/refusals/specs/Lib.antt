@@ -1,3 +1,3 @@
--- What every call of the library gives back, by document 01.
+-- What every call of the library gives back, by document 01; and claims over lists of cases.
 pub mod Answer
 pub mod Every

@@ -1,1 +1,1 @@
-// The answers of document 01: definitions only, in specs/, which the contracts of every crate cite.
+// The answers of document 01: definitions and laws, in specs/ and proofs/, which the crates above cite.

@@ -19,6 +19,7 @@ pub data HeaderCase : Type 0 where
   -- every header with these bytes from 8 on is this refusal, at this place
   refusing : List ℕ → ℕ → ℕ → HeaderCase
 
+-- What a case says.
 abbrev pub Holds : HeaderCase → Type 0
 Holds (written hint tags place) =
     (v : Header) → Holdable v → v .«has_hint» ≡ hint
@@ -30,6 +31,7 @@ Holds (refusing bytes number place) =
 abbrev pub twoVersions : List ℕ
 twoVersions = 0x01 ∷ 0x00 ∷ 4 ∷ 0 ∷ 7 ∷ 0 ∷ 0 ∷ 0 ∷ 0x01 ∷ 0x00 ∷ 3 ∷ 0 ∷ 7 ∷ 0 ∷ 0 ∷ replicate 233 0xFF
 
+-- Lines 7 (without and with hint), 8 (FF, and 01 at 255) and 9.
 abbrev pub headerCases : List HeaderCase
 headerCases =
     written false (more 8 0x0001 4 (more 16 0x0002 8 (more 28 0x0003 32 (more 64 0x0020 64 (more 132 0x0030 2 ended))))) 138
@@ -41,5 +43,6 @@ headerCases =
     ∷ refusing twoVersions 5 16
     ∷ []
 
+-- All of them, as one claim.
 abbrev pub HeaderCases : Type 0
 HeaderCases = Every Holds headerCases

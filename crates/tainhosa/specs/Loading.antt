@@ -20,6 +20,7 @@ pub record Loaded : Type 0 where
   pub row : List ℕ
   pub flash : Flash
 
+-- What the library's power-up answers and leaves, in a row of the right length.
 abbrev pub poweredUp : PowerUp → Loaded
 poweredUp p =
     record {
@@ -39,6 +40,7 @@ powerUpAnswer n s f budget row =
 
 -- ---- arm and confirm
 
+-- What the library's arm or confirm answers and leaves: the row is the count, 0 beside a refusal.
 abbrev pub obeyed : Command → Loaded
 obeyed c = record { answer = refusalOf (c .answer) .number; row = countOf (c .answer) ∷ []; flash = c .flash }
 
