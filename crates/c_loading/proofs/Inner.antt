@@ -3,7 +3,7 @@ use mathlib.Core.Path.{_≡_, refl}
 use Rattle.refusals.specs.Answer.{Answer, gives, refused}
 use Rattle.image.specs.declared.ImageOutcome.{ImageOutcome}
 use Rattle.image.specs.Check as image
-use Rattle.decision.specs.Numbers.{own, ownOf}
+use Rattle.image.specs.Verdict.{own, ownOf}
 use Rattle.c_headers.specs.Numbers.{refusedAt, refusalOf, imageRefusal}
 
 -- a bad image's own number and place

@@ -1,13 +1,9 @@
--- What the image check and the reading of the statuses say, for the rules.
+-- What the reading of the statuses says, for the rules.
 use mathlib.Core.Path.{_≡_, refl, ap, _∙_}
 use mathlib.Core.List.{List}
 use Prim.Native.Nat.{ℕ}
-use Rattle.refusals.specs.Answer.{Answer, gives, refused, then}
-use Rattle.places.specs.declared.HeaderOutcome.{HeaderOutcome}
-use Rattle.places.specs.Judging as header
-use Rattle.header.specs.declared.Header.{Header}
+use Rattle.refusals.specs.Answer.{Answer, gives, refused}
 use Rattle.flash.specs.declared.Geometry.{Geometry}
-use Rattle.flash.specs.Sectors.{firmwareOf}
 use Rattle.status.specs.declared.BootStatus.{BootStatus}
 use Rattle.status.specs.declared.UpdateStatus.{UpdateStatus}
 use Rattle.status.specs.declared.Statuses.{Statuses}
@@ -15,51 +11,7 @@ use Rattle.status.specs.declared.Statuses.the-variants.{Allowed, NotAllowed}
 use Rattle.trailer.specs.declared.Flags.{Flags}
 use Rattle.status.specs.StatusBytes.{bootStatusAt, updateStatusAt, statusesOf, bothStatuses}
 use Rattle.status.proofs.Both.{statuses-read}
-use Rattle.image.specs.declared.ImageAnswer.{ImageAnswer}
-use Rattle.image.specs.declared.ImageOutcome.{ImageOutcome}
-use Rattle.image.specs.declared.ImageOutcome.the-variants.{Good as GoodImage, OutsideRules, BadHeader, WrongDigest}
-use Rattle.image.specs.Check.{badHeader, answerOf, imageIn, Checks}
 use Rattle.exchange.specs.Decision.{Plan, refuse, decideBy, decideStatuses}
-use Rattle.decision.specs.declared.Verdict.the-variants.{Bad}
-use Rattle.decision.specs.Numbers.{checkOf, own}
-use Rattle.decision.specs.Parts.{verdictOf}
-
--- ---- the image check
-
-bad-own : (x : Answer (Unit {0})) → refused (own (badHeader x) .number) (own (badHeader x) .place) ≡ badHeader {A = ℕ} x
-bad-own (gives t) = refl
-bad-own (refused n p) = refl
-
-pub bad-header : (h : HeaderOutcome) (v : ℕ) → verdictOf (Bad (BadHeader h)) ≡ answerOf (BadHeader h) v
-bad-header h v = bad-own (header.answerOf h tt)
-
-abbrev version : Header → Answer ℕ
-version h = gives (h .version)
-
-bad-version : (x : Answer (Unit {0})) → badHeader x ≡ then (badHeader x) version
-bad-version (gives t) = refl
-bad-version (refused n p) = refl
-
-image-version : (o : ImageOutcome) (h : Header) → answerOf o (h .version) ≡ then (answerOf o h) version
-image-version GoodImage h = refl
-image-version OutsideRules h = refl
-image-version (BadHeader o) h = bad-version (header.answerOf o tt)
-image-version WrongDigest h = refl
-
--- the check of the firmware part, with its version alone
-pub checked : (g : Geometry) (l b : List ℕ) (r : ImageAnswer) → b ≡ firmwareOf g l → Checks (imageIn b) r → answerOf (r .outcome) (r .header .version) ≡ checkOf g l
-unfolding checkOf
-checked g l b r e k =
-    image-version (r .outcome) (r .header)
-    ∙ ap (λ (a : Answer Header). then a version) (k .outcome)
-    ∙ ap (λ (x : List ℕ). then (imageIn x) version) e
-
--- the check reads the firmware sectors alone
-pub check-reads-firmware : (g : Geometry) (l l′ : List ℕ) → firmwareOf g l ≡ firmwareOf g l′ → checkOf g l ≡ checkOf g l′
-unfolding checkOf
-check-reads-firmware g l l′ e = ap (λ (x : List ℕ). then (imageIn x) version) e
-
--- ---- the statuses
 
 -- the rules, by both statuses at once
 abbrev deciding : Flags → Answer ℕ → Answer ℕ → Answer (BootStatus × UpdateStatus) → Plan

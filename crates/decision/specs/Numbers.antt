@@ -1,32 +1,13 @@
--- The delivered image check, and 01's numbers for each case of the refusals and reasons.
+-- 01's numbers for each case of the refusals and reasons.
 use Prim.Native.Nat.{ℕ}
-use Rattle.refusals.specs.Answer.{Answer, gives, refused, then}
-use Rattle.flash.specs.Sectors.{firmwareOf}
 use Rattle.image.specs.declared.ImageOutcome.{ImageOutcome}
-use Rattle.image.specs.Check.{answerOf, imageIn}
+use Rattle.image.specs.Verdict.{ownOf}
 use Rattle.exchange.specs.Decision as decision
-use Rattle.exchange.specs.Decision.{Check, because, noReason}
+use Rattle.exchange.specs.Decision.{because, noReason}
 use Rattle.decision.specs.declared.Refusal.{Refusal}
 use Rattle.decision.specs.declared.Refusal.the-variants.{OutsideRules, StatusNotAllowed, FlagsMalformed, BadBoot, NoFallback}
 use Rattle.decision.specs.declared.Reason.{Reason}
 use Rattle.decision.specs.declared.Reason.the-variants.{None, BadUpdate, NotNewer}
-
--- "Image check", as power-up uses it: the version of the image in the firmware sectors, or its refusal. The trailer sector has no say.
-unfoldable pub checkOf : Check
-checkOf g l = then (imageIn (firmwareOf g l)) (λ h. gives (h .version))
-
--- A bad image's own number and place, which 12, 13 and a turning-down reason carry. For a good image, which none of them is about, 0
--- stands there, which is no number of 01.
-pub record Own : Type 0 where
-  pub number : ℕ
-  pub place : ℕ
-
-abbrev pub own : Answer (Unit {0}) → Own
-own (gives t) = record { number = 0; place = 0 }
-own (refused n p) = record { number = n; place = p }
-
-abbrev pub ownOf : ImageOutcome → Own
-ownOf o = own (answerOf o tt)
 
 -- "Numbers given back", of a power-up: a number, and the own number and place of a bad image within it, else 0 and 0.
 pub record Numbers : Type 0 where

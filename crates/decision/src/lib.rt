@@ -2,6 +2,7 @@
 use exchange::Job;
 use flash::Geometry;
 use image::ImageOutcome;
+use image::ImageVerdict;
 use status::BootStatus;
 use status::Statuses;
 use status::UpdateStatus;
@@ -10,10 +11,9 @@ ghost use mathlib.Core.Path.{_≡_};
 ghost use Rattle.flash.specs.Sectors.{Partition};
 ghost use Rattle.status.specs.StatusBytes.{bootStatusAt, updateStatusAt};
 ghost use Rattle.trailer.specs.SectorFlags.{flagsAt};
-ghost use Rattle.image.specs.Check.{answerOf};
+ghost use Rattle.image.specs.Verdict.{checkOf};
 ghost use Rattle.exchange.specs.Decision.{accept, acceptFallback, decideUpdate, decideFallback, decideClosing, decideBy, decideStatuses};
-ghost use Rattle.decision.specs.Numbers.{checkOf};
-ghost use Rattle.decision.specs.Parts.{verdictOf, planOf};
+ghost use Rattle.decision.specs.Parts.{planOf};
 
 // Why a power-up is refused.
 pub enum Refusal {
@@ -36,39 +36,6 @@ pub enum Reason {
     NotNewer,
 }
 
-// ---- the image check
-
-// What the image check finds: a good image's version, or what is wrong.
-pub enum Verdict {
-    Good(u32),
-    Bad(ImageOutcome),
-}
-
-// The verdict by the check's outcome.
-fn verdict_on(outcome: ImageOutcome, version: u32) -> Verdict
-    ensures { λ r. ⌜ verdictOf r ≡ answerOf outcome version ⌝ }
-{
-    match outcome {
-        ImageOutcome::Good => Verdict::Good(version),
-        ImageOutcome::OutsideRules => Verdict::Bad(outcome),
-        ImageOutcome::BadHeader(_) => Verdict::Bad(outcome),
-        ImageOutcome::WrongDigest => Verdict::Bad(outcome),
-    }
-}
-
-// Checks the image of a partition.
-pub fn check_image(g: Geometry, partition: &[u8]) -> Verdict
-    requires { ⌜ Partition g (now partition) ⌝ }
-    ensures { λ r. ⌜ verdictOf r ≡ checkOf g (now (partition .entry)) ⌝ }
-{
-    let checked = image::check_firmware(sectors::firmware_part(g, partition));
-    let outcome = checked.outcome;
-    let header = checked.header;
-    verdict_on(outcome, header.version)
-}
-
-// ---- power-up
-
 // What a power-up is to do.
 pub enum Plan {
     Refuse(Refusal),
@@ -81,18 +48,18 @@ fn accept_update(g: Geometry, boot: &[u8], update: &[u8]) -> Plan
     requires { ⌜ (Partition g (now boot)) × (Partition g (now update)) ⌝ }
     ensures { λ r. ⌜ planOf r ≡ accept (checkOf g (now (update .entry))) (checkOf g (now (boot .entry))) ⌝ }
 {
-    match check_image(g, update) {
-        Verdict::Good(version) => match check_image(g, boot) {
-            Verdict::Good(running) => {
-                if running < version {
+    match image::judge_partition(g, update) {
+        ImageVerdict::Good(coming) => match image::judge_partition(g, boot) {
+            ImageVerdict::Good(running) => {
+                if running.version < coming.version {
                     Plan::Work(Job::Update, Reason::None)
                 } else {
                     Plan::Work(Job::TurnDown, Reason::NotNewer)
                 }
             }
-            Verdict::Bad(o) => Plan::Refuse(Refusal::BadBoot(o)),
+            ImageVerdict::Bad(o) => Plan::Refuse(Refusal::BadBoot(o)),
         },
-        Verdict::Bad(o) => Plan::Work(Job::TurnDown, Reason::BadUpdate(o)),
+        ImageVerdict::Bad(o) => Plan::Work(Job::TurnDown, Reason::BadUpdate(o)),
     }
 }
 
@@ -101,9 +68,9 @@ fn accept_fallback(g: Geometry, update: &[u8]) -> Plan
     requires { ⌜ Partition g (now update) ⌝ }
     ensures { λ r. ⌜ planOf r ≡ acceptFallback (checkOf g (now (update .entry))) ⌝ }
 {
-    match check_image(g, update) {
-        Verdict::Good(_) => Plan::Work(Job::Fallback, Reason::None),
-        Verdict::Bad(o) => Plan::Refuse(Refusal::NoFallback(o)),
+    match image::judge_partition(g, update) {
+        ImageVerdict::Good(_) => Plan::Work(Job::Fallback, Reason::None),
+        ImageVerdict::Bad(o) => Plan::Refuse(Refusal::NoFallback(o)),
     }
 }
 

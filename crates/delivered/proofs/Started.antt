@@ -8,14 +8,14 @@ use Rattle.fips180.specs.Sha256.{first, bigEndian, Ch, Maj, Σ₀, Σ₁, σ₀
 use Rattle.tags.specs.Walk.{itemAt, itemFrom, tagsFrom}
 use Rattle.tags.specs.Bytes.{fieldBytes}
 use Rattle.places.specs.Judging.{rowOf, judge, placesIn}
-use Rattle.header.specs.Reading.{readHeader}
+use Rattle.header.specs.Reading.{tagPlaces}
 use Rattle.header_writer.specs.Writing.{headerBytes}
 use Rattle.image.specs.Check.{same, imageIn}
 use Rattle.exchange.specs.Decision.{decide}
 use Rattle.exchange.specs.Demand.{update, fallback, Starts}
 use Rattle.exchange.specs.Cases.{three}
 use Rattle.exchange.proofs.Reached.{finish-reached}
-use Rattle.decision.specs.Numbers.{checkOf}
+use Rattle.image.specs.Verdict.{checkOf}
 use Rattle.delivered.specs.Witness.{imagePartition, armed, onTest, Witness, Witnesses}
 use Rattle.delivered.proofs.Delivered.{reads-firmware}
 
@@ -23,14 +23,14 @@ armed-starts : Starts checkOf update three armed
 unfolding
     armed imagePartition headerBytes fieldBytes sha256 bytes hash compress nextHash rounds round schedule nextWord H0 words word block pad padding zeros K σ₁ σ₀ Σ₁ Σ₀ Maj Ch bigEndian first
     decide fits partitionFits withinLimits statusByte bootStatusOf updateStatusOf flagsAt flagsShown pastZeros allF flags flagsFrom flagAt half flagByte flagOf firmware
-    checkOf imageIn same readHeader placesIn judge rowOf tagsFrom itemFrom itemAt
+    checkOf imageIn same tagPlaces placesIn judge rowOf tagsFrom itemFrom itemAt
 armed-starts = record { decided = refl; flagsF = refl }
 
 on-test-starts : Starts checkOf fallback three onTest
 unfolding
     onTest imagePartition headerBytes fieldBytes sha256 bytes hash compress nextHash rounds round schedule nextWord H0 words word block pad padding zeros K σ₁ σ₀ Σ₁ Σ₀ Maj Ch bigEndian first
     decide fits partitionFits withinLimits statusByte bootStatusOf updateStatusOf flagsAt flagsShown pastZeros allF flags flagsFrom flagAt half flagByte flagOf firmware
-    checkOf imageIn same readHeader placesIn judge rowOf tagsFrom itemFrom itemAt
+    checkOf imageIn same tagPlaces placesIn judge rowOf tagsFrom itemFrom itemAt
 on-test-starts = record { decided = refl; flagsF = refl }
 
 pub witnesses : Witnesses

@@ -5,7 +5,7 @@ use Rattle.exchange.specs.Cases as exchange
 use Rattle.exchange.specs.Cases.{ExchangeCase, exchangeCases}
 use Rattle.round_trips.specs.Cases as header
 use Rattle.round_trips.specs.Cases.{HeaderCase, headerCases}
-use Rattle.decision.specs.Numbers.{checkOf}
+use Rattle.image.specs.Verdict.{checkOf}
 
 -- Lines 1 to 6 speak of exchanges, lines 7 to 9 of headers.
 pub data MarkedCase : Type 0 where

@@ -13,7 +13,7 @@ use Rattle.exchange.specs.LostPower.{Torn}
 use Rattle.exchange.specs.Demand.{Exchange, update, fallback, Starts, most}
 use Rattle.exchange.specs.Cases.{three}
 use Rattle.exchange.specs.Reached.{Reached}
-use Rattle.decision.specs.Numbers.{checkOf}
+use Rattle.image.specs.Verdict.{checkOf}
 
 -- An image of a version, over a firmware of one byte, in two sectors of 256; and a trailer sector with a status byte.
 abbrev pub headerOf : ℕ → Header

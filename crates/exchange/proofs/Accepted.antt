@@ -5,7 +5,7 @@ use Prim.Native.Nat.{ℕ, _≤_, _<_}
 use native.Mathlib.Decide.{decLt}
 use native.Mathlib.Omega.{arith}
 use lib.Dec.{ltb}
-use borrow.Author.Tests.{le-ltb}
+use borrow.Author.Tests.{lt-ltb, le-ltb}
 use Rattle.refusals.specs.Answer.{Answer, gives, refused}
 use Rattle.flash.specs.declared.Geometry.{Geometry}
 use Rattle.flash.specs.Buffers.{Flash, fits}
@@ -18,37 +18,43 @@ use Rattle.trailer.specs.declared.Flags.the-variants.{AllF}
 use Rattle.status.specs.StatusBytes.{bootStatusAt, updateStatusAt}
 use Rattle.trailer.specs.SectorFlags.{flagsAt}
 use Rattle.exchange.specs.declared.Job.the-variants.{Update, Fallback, TurnDown}
-use Rattle.exchange.specs.Decision.{Check, because, noReason, Plan, refuse, plain, work, accept, acceptFallback, decideBy, decideStatuses, decide}
-use Rattle.exchange.specs.Demand.{Exchange, update, fallback, jobOf, Starts}
-use Rattle.exchange.specs.RuledOut.{Newer, Good}
+use Rattle.exchange.specs.Decision.{Check, because, noReason, Plan, refuse, plain, work, accept, acceptFallback, decideBy, decideStatuses, decide, Good}
+use Rattle.exchange.specs.Demand.{Exchange, update, fallback, jobOf, Underway, from-new, from-success, from-testing, Starts}
+use Rattle.exchange.specs.RuledOut.{Newer}
 
 -- the answers of the image check, on UPDATE and on BOOT
 abbrev pub Images : Exchange → Answer ℕ → Answer ℕ → Type 0
 Images update u b = Newer u b
 Images fallback u b = Good u
 
--- the status bytes
-pub data Armed : Exchange → Answer BootStatus → Answer UpdateStatus → Type 0 where
-  boot-new : Armed update (gives BootNew) (gives Updating)
-  boot-success : Armed update (gives Success) (gives Updating)
-  boot-testing : Armed fallback (gives Testing) (gives UpdateNew)
+abbrev pub update-good : (x : Exchange) (u b : Answer ℕ) → Images x u b → Good u
+update-good update u b I = record { version = I .new; good = I .updateGood }
+update-good fallback u b I = I
+
+-- the statuses that are read, and the images
+pub record Both (x : Exchange) (bs : Answer BootStatus) (us : Answer UpdateStatus) (u b : Answer ℕ) : Type 0 where
+  pub boot : BootStatus
+  pub update : UpdateStatus
+  pub statuses : Underway x boot update
+  pub readBoot : bs ≡ gives boot
+  pub readUpdate : us ≡ gives update
+  pub images : Images x u b
 
 pub record Accepted (check : Check) (x : Exchange) (g : Geometry) (f : Flash) : Type 0 where
   pub fit : fits g f ≡ true
-  pub armed : Armed x (bootStatusAt g (f .boot)) (updateStatusAt g (f .update))
-  pub images : Images x (check g (f .update)) (check g (f .boot))
+  pub both : Both x (bootStatusAt g (f .boot)) (updateStatusAt g (f .update)) (check g (f .update)) (check g (f .boot))
 
 -- ---- what decides for an exchange
 
-refused-no-work : (x : Exchange) (n i p : ℕ) → refuse n i p ≡ work (jobOf x) noReason → ⊥
-refused-no-work x n i p e = let z : _≡_ {A = ℕ} 0 1 = cc in omega arith
+refused-no-work : (x : Exchange) {n i p : ℕ} → refuse n i p ≡ work (jobOf x) noReason → ⊥
+refused-no-work x e = let z : _≡_ {A = ℕ} 0 1 = cc in omega arith
 
 plain-no-work : (x : Exchange) → plain ≡ work (jobOf x) noReason → ⊥
 plain-no-work x e = let z : _≡_ {A = ℕ} 0 1 = cc in omega arith
 
 cond-work : (b : Bool) (y : Plan) (n i p : ℕ) (x : Exchange) → cond b y (refuse n i p) ≡ work (jobOf x) noReason → (b ≡ true) × (y ≡ work (jobOf x) noReason)
 cond-work true y n i p x e = (refl, e)
-cond-work false y n i p x e = absurd (refused-no-work x n i p e)
+cond-work false y n i p x e = absurd (refused-no-work x e)
 
 -- a version that is not greater turns the update down
 pub not-newer : (v w : ℕ) → v ≤ w → accept (gives v) (gives w) ≡ work TurnDown (because 15 0)
@@ -60,7 +66,7 @@ not-newer v w h = turns-down (ltb w v) (le-ltb w v h)
 
 accept-newer : (u b : Answer ℕ) → accept u b ≡ work Update noReason → Newer u b
 accept-newer (refused n p) b e = absurd (let z : _≡_ {A = ℕ} 0 1 = cc in omega arith)
-accept-newer (gives v) (refused n p) e = absurd (refused-no-work update 12 n p e)
+accept-newer (gives v) (refused n p) e = absurd (refused-no-work update e)
 accept-newer (gives v) (gives w) e = by (decLt w v)
   where
     by : Dec (w < v) → Newer (gives v) (gives w)
@@ -69,7 +75,7 @@ accept-newer (gives v) (gives w) e = by (decLt w v)
 
 accept-no-fallback : (u b : Answer ℕ) → accept u b ≡ work Fallback noReason → ⊥
 accept-no-fallback (refused n p) b e = let z : _≡_ {A = ℕ} 0 1 = cc in omega arith
-accept-no-fallback (gives v) (refused n p) e = refused-no-work fallback 12 n p e
+accept-no-fallback (gives v) (refused n p) e = refused-no-work fallback e
 accept-no-fallback (gives v) (gives w) e = by (ltb w v) e
   where
     by : (t : Bool) → cond t (work Update noReason) (work TurnDown (because 15 0)) ≡ work Fallback noReason → ⊥
@@ -77,32 +83,31 @@ accept-no-fallback (gives v) (gives w) e = by (ltb w v) e
     by false e = let z : _≡_ {A = ℕ} 0 1 = cc in omega arith
 
 fallback-good : (u : Answer ℕ) → acceptFallback u ≡ work Fallback noReason → Good u
-fallback-good (refused n p) e = absurd (refused-no-work fallback 13 n p e)
+fallback-good (refused n p) e = absurd (refused-no-work fallback e)
 fallback-good (gives v) e = record { version = v; good = refl }
 
 fallback-no-update : (u : Answer ℕ) → acceptFallback u ≡ work Update noReason → ⊥
-fallback-no-update (refused n p) e = refused-no-work update 13 n p e
+fallback-no-update (refused n p) e = refused-no-work update e
 fallback-no-update (gives v) e = let z : _≡_ {A = ℕ} 0 1 = cc in omega arith
 
 -- the statuses and the images, where all flags are F
-record Both (x : Exchange) (bs : Answer BootStatus) (us : Answer UpdateStatus) (u b : Answer ℕ) : Type 0 where
-  armed : Armed x bs us
-  images : Images x u b
+both : {x : Exchange} {b : BootStatus} {u : UpdateStatus} {y z : Answer ℕ} → Underway x b u → Images x y z → Both x (gives b) (gives u) y z
+both {b} {u} w I = record { boot = b; update = u; statuses = w; readBoot = refl; readUpdate = refl; images = I }
 
 by-statuses : (x : Exchange) (bs : BootStatus) (us : UpdateStatus) (u b : Answer ℕ) → decideBy bs us AllF u b ≡ work (jobOf x) noReason → Both x (gives bs) (gives us) u b
 by-statuses x BootNew UpdateNew u b e = absurd (plain-no-work x e)
 by-statuses x Success UpdateNew u b e = absurd (plain-no-work x e)
 by-statuses update Testing UpdateNew u b e = absurd (fallback-no-update u e)
-by-statuses fallback Testing UpdateNew u b e = record { armed = boot-testing; images = fallback-good u e }
-by-statuses update BootNew Updating u b e = record { armed = boot-new; images = accept-newer u b e }
+by-statuses fallback Testing UpdateNew u b e = both from-testing (fallback-good u e)
+by-statuses update BootNew Updating u b e = both from-new (accept-newer u b e)
 by-statuses fallback BootNew Updating u b e = absurd (accept-no-fallback u b e)
-by-statuses update Success Updating u b e = record { armed = boot-success; images = accept-newer u b e }
+by-statuses update Success Updating u b e = both from-success (accept-newer u b e)
 by-statuses fallback Success Updating u b e = absurd (accept-no-fallback u b e)
-by-statuses x Testing Updating u b e = absurd (refused-no-work x 11 0 0 e)
+by-statuses x Testing Updating u b e = absurd (refused-no-work x e)
 
 by-answers : (x : Exchange) (bs : Answer BootStatus) (us : Answer UpdateStatus) (u b : Answer ℕ) → decideStatuses bs us AllF u b ≡ work (jobOf x) noReason → Both x bs us u b
-by-answers x (refused n p) us u b e = absurd (refused-no-work x n 0 0 e)
-by-answers x (gives bs) (refused n p) u b e = absurd (refused-no-work x n 0 0 e)
+by-answers x (refused n p) us u b e = absurd (refused-no-work x e)
+by-answers x (gives bs) (refused n p) u b e = absurd (refused-no-work x e)
 by-answers x (gives bs) (gives us) u b e = by-statuses x bs us u b e
 
 pub accepted : (check : Check) (x : Exchange) (g : Geometry) (f : Flash) → Starts check x g f → Accepted check x g f
@@ -113,4 +118,10 @@ accepted check x g f s =
     let t : Both x (bootStatusAt g (f .boot)) (updateStatusAt g (f .update)) (check g (f .update)) (check g (f .boot))
     = by-answers x (bootStatusAt g (f .boot)) (updateStatusAt g (f .update)) (check g (f .update)) (check g (f .boot))
     (ap (λ (v : Flags). decideStatuses (bootStatusAt g (f .boot)) (updateStatusAt g (f .update)) v (check g (f .update)) (check g (f .boot))) (sym (s .flagsF)) ∙ k .1) in
-    record { fit = k .0; armed = t .armed; images = t .images }
+    record { fit = k .0; both = t }
+
+-- such statuses and images are accepted
+pub begun : {x : Exchange} {b : BootStatus} {u : UpdateStatus} → Underway x b u → (y z : Answer ℕ) → Images x y z → decideBy b u AllF y z ≡ work (jobOf x) noReason
+begun from-new y z I = rw (I .updateGood, I .bootGood, lt-ltb (I .old) (I .new) (I .newer)) refl
+begun from-success y z I = rw (I .updateGood, I .bootGood, lt-ltb (I .old) (I .new) (I .newer)) refl
+begun from-testing y z I = rw (I .good) refl

@@ -10,7 +10,7 @@ use lib.Dec.{leb, ltb, eqb}
 use borrow.Author.Tests.{eqb-true, lt-leb, le-leb, lt-ltb, le-ltb}
 use Rattle.refusals.specs.Answer.{Answer, gives, refused}
 use Rattle.flash.specs.Sizes.{firmware, Limits}
-use Rattle.flash.specs.Buffers.{Flash, fits}
+use Rattle.flash.specs.Buffers.{Flash, Shaped, fits}
 use Rattle.status.specs.declared.BootStatus.{BootStatus}
 use Rattle.status.specs.declared.BootStatus.the-variants.{New as BootNew, Testing, Success}
 use Rattle.status.specs.declared.UpdateStatus.{UpdateStatus}
@@ -20,24 +20,25 @@ use Rattle.trailer.specs.declared.FlagRead.the-variants.{Known}
 use Rattle.trailer.specs.declared.Flags.{Flags}
 use Rattle.trailer.specs.declared.Flags.the-variants.{Malformed, AllF, At, All0}
 use Rattle.status.specs.StatusBytes.{bootStatusAt, updateStatusAt}
-use Rattle.trailer.specs.SectorFlags.{flagValue, flagOf, flagByte, half, flagAt, flagsFrom, flags, allF, pastZeros, flagsShown, flagsAt}
+use Rattle.trailer.specs.SectorFlags.{moved, flagValue, flagOf, flagByte, half, flagAt, flagsFrom, flags, allF, pastZeros, flagsShown, flagsAt}
 use Rattle.exchange.specs.declared.Next.{Next}
 use Rattle.exchange.specs.declared.Next.the-variants.{Do, Nothing}
 use Rattle.exchange.specs.declared.Job.the-variants.{Update}
 use Rattle.exchange.specs.Order.{nextOperation, Run, run}
 use Rattle.exchange.specs.Decision.{Check, noReason, work, decideBy, decide}
 use Rattle.exchange.specs.PowerUp.{Outcome, refusal, cut, PowerUp, doneOutcome, outcomeBy, worked, powerUp}
-use Rattle.exchange.specs.Demand.{Exchange, update, fallback, jobOf, ReadsFirmware}
+use Rattle.exchange.specs.Demand.{Exchange, update, fallback, jobOf, ReadsFirmware, Underway, from-new, from-success, from-testing}
 use Rattle.refusals.specs.Every.{Every}
 use Rattle.exchange.specs.Cases.{three, flagByteOf, after, counts, lastOutcome, Leaves, ExchangeCase, powerUps, malformed, FlagByteIs, LeavesAs, Holds, exchangeCases, MarkedExchange}
 use Rattle.flash.proofs.Checked.{shaped-of}
-use Rattle.trailer.proofs.Moves.{moved, legMoves, leg-below}
-use Rattle.exchange.proofs.Accepted.{Images}
-use Rattle.exchange.specs.RuledOut.{Underway, from-new, from-success, from-testing}
+use Rattle.trailer.proofs.Moves.{legMoves, leg-below}
+use Rattle.exchange.proofs.Orders.{decide-by-reads}
+use Rattle.exchange.proofs.Accepted.{Images, update-good, begun}
 use Rattle.exchange.proofs.Stage.{Closing, erase-boot, write-testing, erase-update, write-success, closingLeft, closing, Closed, on-test, fallen-back, Stage, in-leg, at-last, at-end, Stepped, stepped, step}
 use Rattle.exchange.proofs.Walked.{closing-some, Walked, walked, ended, restart}
-use Rattle.exchange.proofs.Played.{works, end-good}
-use Rattle.exchange.proofs.Whole.{start}
+use Rattle.exchange.proofs.Decided.{Decides}
+use Rattle.exchange.proofs.Played.{OldRuns, old-runs, works, end-good}
+use Rattle.exchange.proofs.Whole.{begins, stands-first}
 use Rattle.refusals.proofs.Every.{every}
 
 two : firmware three ≡ 2
@@ -158,31 +159,31 @@ record Predicted (x : Exchange) (l r : ℕ) (bs : List ℕ) (y : Leaves) : Type 
   boot : bootLeft x (leftAfter l r bs) ≡ y .bootStatus
   update : updateLeft x (leftAfter l r bs) ≡ y .updateStatus
 
-module _ (check : Check) (R : ReadsFirmware check three) (old : Flash) (G : Limits three) {x : Exchange} {b₀ : BootStatus} {u₀ : UpdateStatus} (B : Underway x b₀ u₀)
-    (I : Images x (check three (old .update)) (check three (old .boot))) (fit : fits three old ≡ true)
+module _ (check : Check) (old : Flash) (G : Limits three) {x : Exchange} {b₀ : BootStatus} {u₀ : UpdateStatus} (B : Underway x b₀ u₀)
+    (I : OldRuns check three old)
     (top : (b : BootStatus) (u : UpdateStatus) (c : Closing x b u) → closingLeft c ≤ closingLeft (closing B)) where
   -- the place is known by the operations left
-  place-of : (f : Flash) (p q : ℕ) → Stage three old B f p q → p ≡ placeLeft (closingLeft (closing B)) q
-  place-of f p q (in-leg i leg hi hp s e₁ e₂ ready n) =
+  place-of : (f : Flash) (p q : ℕ) → Stage (Decides check three B) three old B f p q → p ≡ placeLeft (closingLeft (closing B)) q
+  place-of f p q (in-leg i leg hi hp s d e₁ e₂ ready n) =
       rw (lt-leb q (closingLeft (closing B)) (omega (arith, two, leg-below leg))) (omega (arith, two, leg-below leg))
   place-of f p q (at-last b u c le s e₁ e₂ n z) = rw (le-leb q (closingLeft (closing B)) (omega (arith, top b u c))) z
   place-of f p q (at-end b u c y s e₁ e₂ n z) = rw (le-leb q (closingLeft (closing B)) (omega arith)) z
 
   record Ran (f : Flash) (r : ℕ) (bs : List ℕ) (o : Outcome) : Type 0 where
-    stage : Stage three old B (after check f bs) 0 (leftAfter (closingLeft (closing B)) r bs)
+    stage : Stage (Decides check three B) three old B (after check f bs) 0 (leftAfter (closingLeft (closing B)) r bs)
     counted : counts check f bs ≡ countsAfter (closingLeft (closing B)) r bs
     ends : lastOutcome check f bs o ≡ lastAfter x (closingLeft (closing B)) r bs o
 
   record One (f : Flash) (r b : ℕ) (a : PowerUp) : Type 0 where
-    stage : Stage three old B (a .flash) 0 (nextLeft (closingLeft (closing B)) r b)
+    stage : Stage (Decides check three B) three old B (a .flash) 0 (nextLeft (closingLeft (closing B)) r b)
     counted : a .count ≡ min b r
     ends : a .outcome ≡ cond (ltb b r) cut (doneOutcome (jobOf x))
 
-  one-run : (f : Flash) (r b : ℕ) (w : Run) → Walked three old B (suc r) b w → One f (suc r) b (worked check three (jobOf x) noReason w)
+  one-run : (f : Flash) (r b : ℕ) (w : Run) → Walked (Decides check three B) three old B (suc r) b w → One f (suc r) b (worked check three (jobOf x) noReason w)
   one-run f r b w v = record {
     stage =
-        let y : Stage three old B (w .flash) (w .place) (suc r - min b (suc r)) = subst (λ (n : ℕ). Stage three old B (w .flash) (w .place) (suc r - n)) (v .counted) (v .stage) in
-        subst (λ (p : ℕ). Stage three old B (w .flash) 0 (suc r - min b (suc r) + p)) (place-of (w .flash) (w .place) (suc r - min b (suc r)) y)
+        let y : Stage (Decides check three B) three old B (w .flash) (w .place) (suc r - min b (suc r)) = subst (λ (n : ℕ). Stage (Decides check three B) three old B (w .flash) (w .place) (suc r - n)) (v .counted) (v .stage) in
+        subst (λ (p : ℕ). Stage (Decides check three B) three old B (w .flash) 0 (suc r - min b (suc r) + p)) (place-of (w .flash) (w .place) (suc r - min b (suc r)) y)
         (restart three G old B (w .flash) (w .place) (suc r - min b (suc r)) y);
     counted = v .counted;
     ends = by (suc r - w .count) refl (v .stage);
@@ -191,23 +192,23 @@ module _ (check : Check) (R : ReadsFirmware check three) (old : Flash) (G : Limi
       goal : Type 0
       goal = (worked check three (jobOf x) noReason w) .outcome ≡ cond (ltb b (suc r)) cut (doneOutcome (jobOf x))
 
-      by : (q : ℕ) → suc r - w .count ≡ q → Stage three old B (w .flash) (w .place) q → goal
+      by : (q : ℕ) → suc r - w .count ≡ q → Stage (Decides check three B) three old B (w .flash) (w .place) q → goal
       by zero e y =
           rw (le-ltb b (suc r) (omega (arith, v .counted)))
           (ap₂ (λ (o : Next) (z : Answer ℕ). outcomeBy o (jobOf x) z) (ended three G old B (w .flash) (w .place) y)
-          (end-good check three G old B I fit R (w .flash) (w .place) y .good))
+          (end-good check three G old B I (w .flash) (w .place) y .good))
       by (suc q) e y = cuts (step three G old B (w .flash) (w .place) q y)
         where
-          cuts : Stepped three old B (w .flash) (w .place) q → goal
+          cuts : Stepped (Decides check three B) three old B (w .flash) (w .place) q → goal
           cuts (stepped o n s′ torn) = rw (lt-ltb b (suc r) (omega (arith, v .counted))) (ap (λ (z : Next). outcomeBy z (jobOf x) (check three (w .flash .boot))) n)
 
-  one : (f : Flash) (r b : ℕ) → Stage three old B f 0 (suc r) → One f (suc r) b (powerUp check three f b)
+  one : (f : Flash) (r b : ℕ) → Stage (Decides check three B) three old B f 0 (suc r) → One f (suc r) b (powerUp check three f b)
   one f r b s =
-      subst (λ (a : PowerUp). One f (suc r) b a) (sym (works check three G old B I fit R f r s b))
+      subst (λ (a : PowerUp). One f (suc r) b a) (sym (works check three G old B I f r s b))
       (one-run f r b (run (jobOf x) three b 0 f) (walked three G old B b f 0 (suc r) s))
 
-  ran : (bs : List ℕ) (f : Flash) (r : ℕ) (o : Outcome) → Stage three old B f 0 r → going (closingLeft (closing B)) r bs ≡ true → Ran f r bs o
-  unfolding after counts lastOutcome
+  ran : (bs : List ℕ) (f : Flash) (r : ℕ) (o : Outcome) → Stage (Decides check three B) three old B f 0 r → going (closingLeft (closing B)) r bs ≡ true → Ran f r bs o
+  unfolding counts lastOutcome
   ran [] f r o s h = record { stage = s; counted = refl; ends = refl }
   ran (b ∷ bs) f zero o s h = absurd (let z : _≡_ {A = ℕ} 0 1 = cc in omega arith)
   ran (b ∷ bs) f (suc r) o s h =
@@ -219,7 +220,7 @@ module _ (check : Check) (R : ReadsFirmware check three) (old : Flash) (G : Limi
       and-right false b e = absurd (let z : _≡_ {A = ℕ} 0 1 = cc in omega arith)
 
       on : One f (suc r) b (powerUp check three f b)
-          → (Stage three old B ((powerUp check three f b) .flash) 0 (nextLeft (closingLeft (closing B)) (suc r) b)
+          → (Stage (Decides check three B) three old B ((powerUp check three f b) .flash) 0 (nextLeft (closingLeft (closing B)) (suc r) b)
           → Ran ((powerUp check three f b) .flash) (nextLeft (closingLeft (closing B)) (suc r) b) bs ((powerUp check three f b) .outcome))
           → Ran f (suc r) (b ∷ bs) o
       on p rest = record {
@@ -229,8 +230,8 @@ module _ (check : Check) (R : ReadsFirmware check three) (old : Flash) (G : Limi
             ∙ ap (λ (y : Outcome). lastAfter x (closingLeft (closing B)) (nextLeft (closingLeft (closing B)) (suc r) b) bs y) (p .ends);
       }
 
-  byte-of : (f : Flash) (q : ℕ) → Stage three old B f 0 (suc q) → flagByteOf f ≡ byteLeft (closingLeft (closing B)) (suc q)
-  byte-of f q (in-leg i leg hi hp s e₁ e₂ ready n) =
+  byte-of : (f : Flash) (q : ℕ) → Stage (Decides check three B) three old B f 0 (suc q) → flagByteOf f ≡ byteLeft (closingLeft (closing B)) (suc q)
+  byte-of f q (in-leg i leg hi hp s d e₁ e₂ ready n) =
       let e : (18 + closingLeft (closing B) - suc q) / 3 ≡ 3 * i + legMoves leg = omega (arith, two, leg-below leg) in
       let z : 3 * i + legMoves leg - 3 * 0 ≡ 3 * i + legMoves leg = omega arith in
       rw (lt-leb (suc q) (closingLeft (closing B)) (omega (arith, two, leg-below leg)), e)
@@ -249,18 +250,18 @@ module _ (check : Check) (R : ReadsFirmware check three) (old : Flash) (G : Limi
       → Statuses x b u q → StatusesAt f q
   statuses-at f q b u e₁ e₂ k = record { boot = e₁ ∙ ap gives (k .boot); update = e₂ ∙ ap gives (k .update) }
 
-  status-of : (f : Flash) (q : ℕ) → Stage three old B f 0 q → StatusesAt f q
-  status-of f q (in-leg i leg hi hp s e₁ e₂ ready n) = statuses-at f q b₀ u₀ e₁ e₂ (left-begun x b₀ u₀ B q top (omega (arith, two, leg-below leg)))
+  status-of : (f : Flash) (q : ℕ) → Stage (Decides check three B) three old B f 0 q → StatusesAt f q
+  status-of f q (in-leg i leg hi hp s d e₁ e₂ ready n) = statuses-at f q b₀ u₀ e₁ e₂ (left-begun x b₀ u₀ B q top (omega (arith, two, leg-below leg)))
   status-of f q (at-last b u c le s e₁ e₂ n z) = statuses-at f q b u e₁ e₂ (subst (Statuses x b u) (sym n) (left-closing x b u c))
   status-of f q (at-end b u c y s e₁ e₂ n z) = statuses-at f q b u e₁ e₂ (subst (Statuses x b u) (sym n) (left-closed x b u c))
 
-  byte-is : (b : Option ℕ) (f : Flash) (q : ℕ) → ByteAgrees b (closingLeft (closing B)) q → Stage three old B f 0 q → FlagByteIs b f
+  byte-is : (b : Option ℕ) (f : Flash) (q : ℕ) → ByteAgrees b (closingLeft (closing B)) q → Stage (Decides check three B) three old B f 0 q → FlagByteIs b f
   byte-is none f q h s = tt
   byte-is (some b) f zero h s = absurd (omega (arith, h .0))
   byte-is (some b) f (suc q) h s = byte-of f q s ∙ h .1
 
   -- a case, by what the numbers predict
-  predicted : (bs : List ℕ) (y : Leaves) → Stage three old B old 0 (18 + closingLeft (closing B))
+  predicted : (bs : List ℕ) (y : Leaves) → Stage (Decides check three B) three old B old 0 (18 + closingLeft (closing B))
       → Predicted x (closingLeft (closing B)) (18 + closingLeft (closing B)) bs y → LeavesAs check old bs y
   predicted bs y s a =
       let r : Ran old (18 + closingLeft (closing B)) bs cut = ran bs old (18 + closingLeft (closing B)) cut s (a .goes) in
@@ -282,24 +283,26 @@ top-update b u c = closing-some c .1
 top-fallback : (b : BootStatus) (u : UpdateStatus) (c : Closing fallback b u) → closingLeft c ≤ 1
 top-fallback b u write-success = omega arith
 
+from-start : (check : Check) (x : Exchange) (f : Flash) → ReadsFirmware check three → {b : BootStatus} {u : UpdateStatus} (B : Underway x b u) → fits three f ≡ true
+    → bootStatusAt three (f .boot) ≡ gives b → updateStatusAt three (f .update) ≡ gives u → flagsAt three (f .update) ≡ AllF
+    → Images x (check three (f .update)) (check three (f .boot)) → ((b : BootStatus) (u : UpdateStatus) (c : Closing x b u) → closingLeft c ≤ closingLeft (closing B))
+    → (bs : List ℕ) (y : Leaves) → Predicted x (closingLeft (closing B)) (18 + closingLeft (closing B)) bs y → LeavesAs check f bs y
+from-start check x f R {b} {u} B fit e₁ e₂ e₃ I top bs y a =
+    let v = begins check three f f 0 B fit e₁ e₂ (stands-first three f e₃)
+    (λ k. decide-by-reads check three f b u AllF fit e₁ e₂ k ∙ begun B (check three (f .update)) (check three (f .boot)) I) in
+    let s : Shaped three f = shaped-of three f fit in
+    let z : v .left ≡ 18 + closingLeft (closing B) = omega (arith, two, v .counted) in
+    predicted check f (s .limits) B (old-runs check three f R (s .update) (update-good x (check three (f .update)) (check three (f .boot)) I)) top bs y
+    (subst (λ (n : ℕ). Stage (Decides check three B) three f B f 0 n) z (v .stage)) a
+
 update-case : (check : Check) → ReadsFirmware check three → (bs : List ℕ) (y : Leaves) → Predicted update 3 21 bs y → Holds check (powerUps update bs y)
 update-case check R bs y a f r =
-    let G : Limits three = (shaped-of three f (r .fit)) .limits in
-    let I : Images update (check three (f .update)) (check three (f .boot))
-    = record { new = r .newVersion; old = r .oldVersion; updateGood = r .updateGood; bootGood = r .bootGood; newer = r .newer } in
-    let z : 9 * firmware three + 3 ≡ 21 = omega (arith, two) in
-    predicted check R f G from-success I (r .fit) top-update bs y
-    (subst (λ (n : ℕ). Stage three f from-success f 0 n) z (start check three G f from-success I (r .fit) R (r .bootIs) (r .updateIs) (r .flagsF)))
-    a
+    from-start check update f R from-success (r .fit) (r .bootIs) (r .updateIs) (r .flagsF)
+    (record { new = r .newVersion; old = r .oldVersion; updateGood = r .updateGood; bootGood = r .bootGood; newer = r .newer }) top-update bs y a
 
 fallback-case : (check : Check) → ReadsFirmware check three → (bs : List ℕ) (y : Leaves) → Predicted fallback 1 19 bs y → Holds check (powerUps fallback bs y)
 fallback-case check R bs y a f r =
-    let G : Limits three = (shaped-of three f (r .fit)) .limits in
-    let I : Images fallback (check three (f .update)) (check three (f .boot)) = record { version = r .version; good = r .updateGood } in
-    let z : 9 * firmware three + 1 ≡ 19 = omega (arith, two) in
-    predicted check R f G from-testing I (r .fit) top-fallback bs y
-    (subst (λ (n : ℕ). Stage three f from-testing f 0 n) z (start check three G f from-testing I (r .fit) R (r .bootIs) (r .updateIs) (r .flagsF)))
-    a
+    from-start check fallback f R from-testing (r .fit) (r .bootIs) (r .updateIs) (r .flagsF) (record { version = r .version; good = r .updateGood }) top-fallback bs y a
 
 -- ---- a flag byte
 

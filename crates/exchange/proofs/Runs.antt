@@ -1,38 +1,93 @@
 -- Laws of a run of steps, for every job: nothing is next, one more step, two runs one after the other; and the power-up that runs them.
 use mathlib.Core.Path.{_≡_, refl, sym, ap, _∙_}
+use mathlib.Core.List.{List, [], _∷_}
 use Prim.Native.Nat.{ℕ, zero, suc, _+_, _≤_}
 use native.Mathlib.Omega.{arith}
+use lib.ListN.{length, take}
 use Rattle.flash.specs.declared.Geometry.{Geometry}
 use Rattle.flash.specs.Buffers.{Flash}
 use Rattle.exchange.specs.declared.Operation.{Operation}
 use Rattle.exchange.specs.declared.Next.{Next}
 use Rattle.exchange.specs.declared.Next.the-variants.{Do, Nothing}
 use Rattle.exchange.specs.declared.Job.{Job}
-use Rattle.exchange.specs.Operations.{perform, placeAfter}
-use Rattle.exchange.specs.Order.{nextOperation, performNext, step, Run, oneMore, runBy, run}
+use Rattle.exchange.specs.Operations.{perform, performAll, placeAfter}
+use Rattle.exchange.specs.Order.{nextOperation, performNext, step, Run, stopped, oneMore, run, operations}
 use Rattle.exchange.specs.Decision.{Check, Reason, work, decide}
 use Rattle.exchange.specs.PowerUp.{worked, powerUp}
 
-pub run-none : (job : Job) (g : Geometry) (k p : ℕ) (f : Flash) → nextOperation job g p f ≡ Nothing → run job g k p f ≡ record { count = 0; place = p; flash = f }
+-- the step does what is next
+step-does : (job : Job) (g : Geometry) (p : ℕ) (f : Flash) (o : Operation) → nextOperation job g p f ≡ Do o → (step job g p f) .flash ≡ perform g o f
+unfolding step
+step-does job g p f o e = ap (λ (n : Next). performNext g n f) e
+
+pub run-none : (job : Job) (g : Geometry) (k p : ℕ) (f : Flash) → nextOperation job g p f ≡ Nothing → run job g k p f ≡ stopped p f
 unfolding run step
 run-none job g zero p f e = refl
-run-none job g (suc k) p f e = ap (λ (n : Next). runBy n p (performNext g n f) (λ q. run job g k q (performNext g n f))) e
+run-none job g (suc k) p f e = rw (run, e)
 
 pub run-some : (job : Job) (g : Geometry) (k p : ℕ) (f : Flash) (o : Operation) → nextOperation job g p f ≡ Do o
     → run job g (suc k) p f ≡ oneMore (run job g k (placeAfter o) (perform g o f))
 unfolding run step
-run-some job g k p f o e = ap (λ (n : Next). runBy n p (performNext g n f) (λ q. run job g k q (performNext g n f))) e
+run-some job g k p f o e = rw (run, e) (ap (λ (h : Flash). oneMore (run job g k (placeAfter o) h)) (step-does job g p f o e))
+
+-- ---- what the run did, as a list
+
+pub operations-none : (job : Job) (g : Geometry) (k p : ℕ) (f : Flash) → nextOperation job g p f ≡ Nothing → operations job g k p f ≡ []
+unfolding operations step
+operations-none job g zero p f e = refl
+operations-none job g (suc k) p f e = rw (operations, e)
+
+pub operations-some : (job : Job) (g : Geometry) (k p : ℕ) (f : Flash) (o : Operation) → nextOperation job g p f ≡ Do o
+    → operations job g (suc k) p f ≡ o ∷ operations job g k (placeAfter o) (perform g o f)
+unfolding operations step
+operations-some job g k p f o e = rw (operations, e) (ap (λ (h : Flash). o ∷ operations job g k (placeAfter o) h) (step-does job g p f o e))
+
+record Lists (g : Geometry) (f : Flash) (os : List Operation) (w : Run) : Type 0 where
+  counted : w .count ≡ length os
+  left : w .flash ≡ performAll g os f
+
+lists : (job : Job) (g : Geometry) (k p : ℕ) (f : Flash) → Lists g f (operations job g k p f) (run job g k p f)
+unfolding run operations
+lists job g zero p f = record { counted = refl; left = refl }
+lists job g (suc k) p f = by (nextOperation job g p f) refl (λ o. lists job g k (placeAfter o) (perform g o f))
+  where
+    by : (n : Next) → nextOperation job g p f ≡ n
+        → ((o : Operation) → Lists g (perform g o f) (operations job g k (placeAfter o) (perform g o f)) (run job g k (placeAfter o) (perform g o f)))
+        → Lists g f (operations job g (suc k) p f) (run job g (suc k) p f)
+    by Nothing e ih = rw (run-none job g (suc k) p f e, operations-none job g (suc k) p f e) (record { counted = refl; left = refl })
+    by (Do o) e ih = rw (run-some job g k p f o e, operations-some job g k p f o e) (record { counted = ap suc (ih o .counted); left = ih o .left })
+
+pub run-count : (job : Job) (g : Geometry) (k p : ℕ) (f : Flash) → (run job g k p f) .count ≡ length (operations job g k p f)
+run-count job g k p f = (lists job g k p f) .counted
+
+pub run-flash : (job : Job) (g : Geometry) (k p : ℕ) (f : Flash) → (run job g k p f) .flash ≡ performAll g (operations job g k p f) f
+run-flash job g k p f = (lists job g k p f) .left
+
+-- fewer steps are the first of them
+pub operations-first : (job : Job) (g : Geometry) (k n p : ℕ) (f : Flash) → k ≤ n → operations job g k p f ≡ take k (operations job g n p f)
+unfolding operations
+operations-first job g zero n p f h = refl
+operations-first job g (suc k) zero p f h = absurd (omega arith)
+operations-first job g (suc k) (suc n) p f h =
+    by (nextOperation job g p f) refl (λ o. operations-first job g k n (placeAfter o) (perform g o f) (omega arith))
+  where
+    by : (m : Next) → nextOperation job g p f ≡ m
+        → ((o : Operation) → operations job g k (placeAfter o) (perform g o f) ≡ take k (operations job g n (placeAfter o) (perform g o f)))
+        → operations job g (suc k) p f ≡ take (suc k) (operations job g (suc n) p f)
+    by Nothing e ih = rw (operations-none job g (suc k) p f e, operations-none job g (suc n) p f e)
+    by (Do o) e ih = rw (operations-some job g k p f o e, operations-some job g n p f o e) (ap (λ (os : List Operation). o ∷ os) (ih o))
+
+-- ---- how many
 
 -- no more steps than k
 pub run-within : (job : Job) (g : Geometry) (k p : ℕ) (f : Flash) → (run job g k p f) .count ≤ k
-unfolding run step
+unfolding run
 run-within job g zero p f = omega arith
-run-within job g (suc k) p f = by (nextOperation job g p f) (λ q h. run-within job g k q h)
+run-within job g (suc k) p f = by (nextOperation job g p f) refl (λ o. run-within job g k (placeAfter o) (perform g o f))
   where
-    by : (n : Next) → ((q : ℕ) (h : Flash) → (run job g k q h) .count ≤ k)
-        → (runBy n p (performNext g n f) (λ q. run job g k q (performNext g n f))) .count ≤ suc k
-    by Nothing ih = omega arith
-    by (Do o) ih = omega (arith, ih (placeAfter o) (perform g o f))
+    by : (n : Next) → nextOperation job g p f ≡ n → ((o : Operation) → (run job g k (placeAfter o) (perform g o f)) .count ≤ k) → (run job g (suc k) p f) .count ≤ suc k
+    by Nothing e ih = rw (run-none job g (suc k) p f e) (omega arith)
+    by (Do o) e ih = rw (run-some job g k p f o e) (omega (arith, ih o))
 
 -- j steps and then k more are j + k steps
 abbrev pub andThen : Run → Run → Run

@@ -17,7 +17,7 @@ use Rattle.trailer.specs.declared.FlagRead.the-variants.{Known}
 use Rattle.trailer.specs.declared.Leg.{Leg}
 use Rattle.trailer.specs.declared.Leg.the-variants.{UpdateToSwap, BootToUpdate, SwapToBoot}
 use Rattle.status.specs.StatusBytes.{bootByte, bootStatusOf, bootStatusAt, updateStatusOf, updateStatusAt}
-use Rattle.trailer.specs.SectorFlags.{flagAt, setFlag}
+use Rattle.trailer.specs.SectorFlags.{moved, flagAt, setFlag}
 use Rattle.exchange.specs.declared.Area.{Area}
 use Rattle.exchange.specs.declared.Area.the-variants.{Boot, Update, Swap}
 use Rattle.exchange.specs.declared.Operation.the-variants.{WriteFlag, EraseBootTrailer, EraseUpdateTrailer, WriteBootStatus}
@@ -25,7 +25,7 @@ use Rattle.exchange.specs.Operations.{get, put, perform, target, source,
 use Rattle.flash.proofs.Bytes.{length-part}
 use Rattle.flash.proofs.Laws.{length-sector, sector-same, sector-other, length-erased, sector-in}
 use Rattle.trailer.proofs.Laws.{status-sector, flag-sector, length-flag, sector-flag, length-status, sector-status}
-use Rattle.trailer.proofs.Moves.{moved, moved-none, moved-all, legMoves, leg-below, AfterMoves, moves-on}
+use Rattle.trailer.proofs.Moves.{moved-none, moved-all, legMoves, leg-below, AfterMoves, moves-on}
 
 -- after a moves: the flags, and each old sector in its place
 pub record Sound (g : Geometry) (old : Flash) (a : ℕ) (f : Flash) : Type 0 where
@@ -33,7 +33,6 @@ pub record Sound (g : Geometry) (old : Flash) (a : ℕ) (f : Flash) : Type 0 whe
   pub moves : AfterMoves g (f .update) a
   pub bootIn : (j : ℕ) → j < firmware g → get g (oldBootIn (moved (a - 3 * j))) j f ≡ get g Boot j old
   pub updateIn : (j : ℕ) → j < firmware g → get g (oldUpdateIn (moved (a - 3 * j))) j f ≡ get g Update j old
-  pub untouched : a ≡ 0 → (f .boot ≡ old .boot) × (f .update ≡ old .update)
 
 -- all flags 0
 pub record Crossed (g : Geometry) (old f : Flash) : Type 0 where
@@ -151,12 +150,6 @@ module _ (g : Geometry) (G : Limits g) where
   target-not-update BootToUpdate i j x f = refl
   target-not-update SwapToBoot i j x f = refl
 
-  put-untouched : (old : Flash) (leg : Leg) (i : ℕ) (x : List ℕ) (f : Flash) → ((f .boot ≡ old .boot) × (f .update ≡ old .update)) → 3 * i + legMoves leg ≡ 0
-      → ((put g (target leg) i x f) .boot ≡ old .boot) × ((put g (target leg) i x f) .update ≡ old .update)
-  put-untouched old UpdateToSwap i x f u e = u
-  put-untouched old BootToUpdate i x f u e = absurd (omega arith)
-  put-untouched old SwapToBoot i x f u e = absurd (omega arith)
-
   module _ (old : Flash) (i : ℕ) (leg : Leg) (hi : i < firmware g) (f : Flash) (s : Sound g old (3 * i + legMoves leg) f) where
     -- any bytes in the sector that the leg writes
     pub scratch : (x : List ℕ) → length x ≡ g .size → Sound g old (3 * i + legMoves leg) (put g (target leg) i x f)
@@ -167,7 +160,6 @@ module _ (g : Geometry) (G : Limits g) where
           (λ k. put-boot-other d i x f X (s .shaped) j (omega arith) k) (λ k. put-update-other d i x f X (s .shaped) j (omega arith) k) ∙ s .bootIn j hj;
       updateIn = λ j hj. keep g f f′ i leg j oldUpdateIn (target-not-update leg i j x f)
           (λ k. put-update-other d i x f X (s .shaped) j (omega arith) k) (λ k. put-boot-other d i x f X (s .shaped) j (omega arith) k) ∙ s .updateIn j hj;
-      untouched = λ e. put-untouched old leg i x f (s .untouched e) e;
     }
       where
         d : Area
@@ -209,7 +201,6 @@ module _ (g : Geometry) (G : Limits g) where
           (moves-on g G (f .update) (s .shaped .update) i leg hi (s .moves));
       bootIn = λ j hj. place-by oldBootIn moved-boot j hj (ℕ-discrete j i) ∙ s .bootIn j hj;
       updateIn = λ j hj. place-by oldUpdateIn moved-update j hj (ℕ-discrete j i) ∙ s .updateIn j hj;
-      untouched = λ e. absurd (omega arith);
     }
       where
         v : Flag

@@ -2,7 +2,7 @@
 use mathlib.Core.Path.{_≡_, refl, sym, ap, _∙_, subst}
 use mathlib.Core.Bool.{Bool, true, false, cond}
 use mathlib.Core.List.{List}
-use Prim.Native.Nat.{ℕ, zero, suc, _+_, _-_, _*_, _≤_, _<_}
+use Prim.Native.Nat.{ℕ, zero, suc, _+_, _*_, _≤_, _<_}
 use native.Mathlib.Decide.{decLt}
 use native.Mathlib.Omega.{arith}
 use lib.ListN.{length}
@@ -28,11 +28,10 @@ use Rattle.exchange.specs.declared.Job.the-variants.{Update, Fallback}
 use Rattle.exchange.specs.Operations.{get, put, perform, target, source, nextFlag, legOperation, placeAfter}
 use Rattle.exchange.specs.Order.{exchangeNext, nextOperation}
 use Rattle.exchange.specs.LostPower.{Torn, performTorn}
-use Rattle.exchange.specs.Demand.{Exchange, update, fallback, jobOf, LastBytes}
-use Rattle.exchange.specs.RuledOut.{Underway, from-new, from-success, from-testing}
+use Rattle.exchange.specs.Demand.{Exchange, update, fallback, jobOf, LastBytes, flagsAtFinish, Underway, from-new, from-success, from-testing}
 use Rattle.flash.proofs.Checked.{some-firmware}
 use Rattle.flash.proofs.Laws.{length-erased, sector-same}
-use Rattle.trailer.proofs.Laws.{boot-erased, update-erased, boot-written, status-flag}
+use Rattle.trailer.proofs.Laws.{boot-erased, update-erased, flags-erased, boot-written, status-flag}
 use Rattle.trailer.proofs.Shown.{shown-all-0}
 use Rattle.trailer.proofs.Moves.{legMoves, atLeg, shown-leg}
 use Rattle.exchange.proofs.Orders.{next-by-reads}
@@ -71,21 +70,22 @@ pub record Swapped (x : Exchange) (g : Geometry) (old f : Flash) : Type 0 where
   pub bootIs : (j : ℕ) → j < firmware g → get g Boot j f ≡ get g UpdateArea j old
   pub updateIs : (j : ℕ) → j < firmware g → get g UpdateArea j f ≡ get g Boot j old
   pub lastBytes : LastBytes x g f
+  pub flags : flagsAt g (f .update) ≡ flagsAtFinish x
 
--- at the place p of a leg, with r operations left
-pub data Stage (g : Geometry) (old : Flash) {x : Exchange} {b₀ : BootStatus} {u₀ : UpdateStatus} (B : Underway x b₀ u₀) (f : Flash) (p r : ℕ) : Type 0 where
-  in-leg : (i : ℕ) (leg : Leg) → i < firmware g → p < 3 → Sound g old (3 * i + legMoves leg) f
+-- at the place p of a leg, with r operations left. D is what else holds of BOOT's and UPDATE's bytes while no flag has moved.
+pub data Stage (D : List ℕ → List ℕ → Type 0) (g : Geometry) (old : Flash) {x : Exchange} {b₀ : BootStatus} {u₀ : UpdateStatus} (B : Underway x b₀ u₀) (f : Flash) (p r : ℕ) : Type 0 where
+  in-leg : (i : ℕ) (leg : Leg) → i < firmware g → p < 3 → Sound g old (3 * i + legMoves leg) f → (3 * i + legMoves leg ≡ 0 → D (f .boot) (f .update))
       → bootStatusAt g (f .boot) ≡ gives b₀ → updateStatusAt g (f .update) ≡ gives u₀ → (p ≡ 2 → Ready g leg i f)
-      → r + 3 * (3 * i + legMoves leg) + p ≡ 9 * firmware g + closingLeft (closing B) → Stage g old B f p r
+      → r + 3 * (3 * i + legMoves leg) + p ≡ 9 * firmware g + closingLeft (closing B) → Stage D g old B f p r
   at-last : (b : BootStatus) (u : UpdateStatus) (c : Closing x b u) → closingLeft c ≤ closingLeft (closing B) → Crossed g old f
-      → bootStatusAt g (f .boot) ≡ gives b → updateStatusAt g (f .update) ≡ gives u → r ≡ closingLeft c → p ≡ 0 → Stage g old B f p r
+      → bootStatusAt g (f .boot) ≡ gives b → updateStatusAt g (f .update) ≡ gives u → r ≡ closingLeft c → p ≡ 0 → Stage D g old B f p r
   at-end : (b : BootStatus) (u : UpdateStatus) (c : Closed x b u) → Swapped x g old f → Shaped g f
-      → bootStatusAt g (f .boot) ≡ gives b → updateStatusAt g (f .update) ≡ gives u → r ≡ 0 → p ≡ 0 → Stage g old B f p r
+      → bootStatusAt g (f .boot) ≡ gives b → updateStatusAt g (f .update) ≡ gives u → r ≡ 0 → p ≡ 0 → Stage D g old B f p r
 
-pub data Stepped (g : Geometry) (old : Flash) {x : Exchange} {b₀ : BootStatus} {u₀ : UpdateStatus} (B : Underway x b₀ u₀) (f : Flash) (p r : ℕ) : Type 0 where
-  stepped : (o : Operation) → nextOperation (jobOf x) g p f ≡ Do o → Stage g old B (perform g o f) (placeAfter o) r
-      → ((t : Torn) → length (t .bytes) ≡ g .size → (q : ℕ) × (q ≤ suc r + p) × Stage g old B (performTorn g t o f) 0 q)
-      → Stepped g old B f p r
+pub data Stepped (D : List ℕ → List ℕ → Type 0) (g : Geometry) (old : Flash) {x : Exchange} {b₀ : BootStatus} {u₀ : UpdateStatus} (B : Underway x b₀ u₀) (f : Flash) (p r : ℕ) : Type 0 where
+  stepped : (o : Operation) → nextOperation (jobOf x) g p f ≡ Do o → Stage D g old B (perform g o f) (placeAfter o) r
+      → ((t : Torn) → length (t .bytes) ≡ g .size → (q : ℕ) × (q ≤ suc r + p) × Stage D g old B (performTorn g t o f) 0 q)
+      → Stepped D g old B f p r
 
 -- ---- the next operation
 
@@ -121,99 +121,114 @@ next-end g x b u fallen-back p f e₁ e₂ = next-by-reads Fallback g p f b u (f
 -- ---- the single step
 
 -- old or new
-either : (g : Geometry) (old : Flash) (x : Exchange) (b₀ : BootStatus) (u₀ : UpdateStatus) (B : Underway x b₀ u₀) (n : Bool) (f f′ : Flash) (p r : ℕ)
-    → Stage g old B f′ 0 r → Stage g old B f 0 (suc r + p) → (q : ℕ) × (q ≤ suc r + p) × Stage g old B (cond n f′ f) 0 q
+either : {D : List ℕ → List ℕ → Type 0} (g : Geometry) (old : Flash) (x : Exchange) (b₀ : BootStatus) (u₀ : UpdateStatus) (B : Underway x b₀ u₀) (n : Bool) (f f′ : Flash) (p r : ℕ)
+    → Stage D g old B f′ 0 r → Stage D g old B f 0 (suc r + p) → (q : ℕ) × (q ≤ suc r + p) × Stage D g old B (cond n f′ f) 0 q
 either g old x b₀ u₀ B true f f′ p r a b = (r, omega arith, a)
 either g old x b₀ u₀ B false f f′ p r a b = (suc r + p, omega arith, b)
 
 pub all-0 : (g : Geometry) (G : Limits g) (old f : Flash) → Crossed g old f → flagsAt g (f .update) ≡ All0
 all-0 g G old f s = shown-all-0 g (f .update) (some-firmware g G) (s .flags0)
 
-last-step : (g : Geometry) (G : Limits g) (old : Flash) (x : Exchange) (b₀ : BootStatus) (u₀ : UpdateStatus) (B : Underway x b₀ u₀) (f : Flash) (r : ℕ)
+last-step : {D : List ℕ → List ℕ → Type 0} (g : Geometry) (G : Limits g) (old : Flash) (x : Exchange) (b₀ : BootStatus) (u₀ : UpdateStatus) (B : Underway x b₀ u₀) (f : Flash) (r : ℕ)
     (b : BootStatus) (u : UpdateStatus) (c : Closing x b u) → closingLeft c ≤ closingLeft (closing B)
-    → Crossed g old f → bootStatusAt g (f .boot) ≡ gives b → updateStatusAt g (f .update) ≡ gives u → suc r ≡ closingLeft c → Stepped g old B f 0 r
-last-step g G old x b₀ u₀ B f r b u erase-boot le s e₁ e₂ n =
-    let next : Stage g old B (perform g EraseBootTrailer f) 0 r
+    → Crossed g old f → bootStatusAt g (f .boot) ≡ gives b → updateStatusAt g (f .update) ≡ gives u → suc r ≡ closingLeft c → Stepped D g old B f 0 r
+last-step {D} g G old x b₀ u₀ B f r b u erase-boot le s e₁ e₂ n =
+    let next : Stage D g old B (perform g EraseBootTrailer f) 0 r
     = at-last BootNew Updating write-testing (omega arith) (boot-trailer g G old f s) (boot-erased g G (f .boot) (s .shaped .boot)) e₂ (omega arith) refl in
     stepped EraseBootTrailer (next-last g x b u erase-boot 0 f e₁ e₂ (all-0 g G old f s)) next
     (λ y Y. either g old x b₀ u₀ B (y .new) f (perform g EraseBootTrailer f) 0 r next (at-last Success Updating erase-boot le s e₁ e₂ (omega arith) refl))
-last-step g G old x b₀ u₀ B f r b u write-testing le s e₁ e₂ n =
-    let next : Stage g old B (perform g (WriteBootStatus Testing) f) 0 r
+last-step {D} g G old x b₀ u₀ B f r b u write-testing le s e₁ e₂ n =
+    let next : Stage D g old B (perform g (WriteBootStatus Testing) f) 0 r
     = at-last Testing Updating erase-update (omega arith) (boot-status g G old f s Testing) (boot-written g G (f .boot) (s .shaped .boot) Testing) e₂ (omega arith) refl in
     stepped (WriteBootStatus Testing) (next-last g x b u write-testing 0 f e₁ e₂ (all-0 g G old f s)) next
     (λ y Y. either g old x b₀ u₀ B (y .new) f (perform g (WriteBootStatus Testing) f) 0 r next (at-last BootNew Updating write-testing le s e₁ e₂ (omega arith) refl))
-last-step g G old x b₀ u₀ B f r b u erase-update le s e₁ e₂ n =
-    let next : Stage g old B (perform g EraseUpdateTrailer f) 0 r
+last-step {D} g G old x b₀ u₀ B f r b u erase-update le s e₁ e₂ n =
+    let next : Stage D g old B (perform g EraseUpdateTrailer f) 0 r
     = at-end Testing UpdateNew on-test (record {
       bootIs = s .bootIs;
       updateIs = update-trailer g G old f s;
       lastBytes = sector-same g G (f .update) (erased (g .size)) (s .shaped .update) (length-erased (g .size)) (firmware g) (omega arith);
+      flags = flags-erased g G (f .update) (s .shaped .update);
     })
     (put-shaped g G UpdateArea (firmware g) (erased (g .size)) f (omega arith) (length-erased (g .size)) (s .shaped)) e₁
     (update-erased g G (f .update) (s .shaped .update)) (omega arith) refl in
     stepped EraseUpdateTrailer (next-last g x b u erase-update 0 f e₁ e₂ (all-0 g G old f s)) next
     (λ y Y. either g old x b₀ u₀ B (y .new) f (perform g EraseUpdateTrailer f) 0 r next (at-last Testing Updating erase-update le s e₁ e₂ (omega arith) refl))
-last-step g G old x b₀ u₀ B f r b u write-success le s e₁ e₂ n =
+last-step {D} g G old x b₀ u₀ B f r b u write-success le s e₁ e₂ n =
     let s′ : Crossed g old (perform g (WriteBootStatus Success) f) = boot-status g G old f s Success in
-    let next : Stage g old B (perform g (WriteBootStatus Success) f) 0 r
-    = at-end Success UpdateNew fallen-back (record { bootIs = s′ .bootIs; updateIs = s′ .updateIs; lastBytes = boot-written g G (f .boot) (s .shaped .boot) Success }) (s′ .shaped)
+    let next : Stage D g old B (perform g (WriteBootStatus Success) f) 0 r
+    = at-end Success UpdateNew fallen-back (record {
+      bootIs = s′ .bootIs;
+      updateIs = s′ .updateIs;
+      lastBytes = boot-written g G (f .boot) (s .shaped .boot) Success;
+      flags = all-0 g G old f s;
+    })
+    (s′ .shaped)
     (boot-written g G (f .boot) (s .shaped .boot) Success) e₂ (omega arith) refl in
     stepped (WriteBootStatus Success) (next-last g x b u write-success 0 f e₁ e₂ (all-0 g G old f s)) next
     (λ y Y. either g old x b₀ u₀ B (y .new) f (perform g (WriteBootStatus Success) f) 0 r next (at-last Testing UpdateNew write-success le s e₁ e₂ (omega arith) refl))
 
-module _ (g : Geometry) (G : Limits g) (old : Flash) {x : Exchange} {b₀ : BootStatus} {u₀ : UpdateStatus} (B : Underway x b₀ u₀) where
+-- a leg from all flags F writes SWAP only
+kept : (D : List ℕ → List ℕ → Type 0) (g : Geometry) (i : ℕ) (leg : Leg) (y : List ℕ) (f : Flash) → (3 * i + legMoves leg ≡ 0 → D (f .boot) (f .update))
+    → 3 * i + legMoves leg ≡ 0 → D ((put g (target leg) i y f) .boot) ((put g (target leg) i y f) .update)
+kept D g i UpdateToSwap y f d e = d e
+kept D g i BootToUpdate y f d e = absurd (omega arith)
+kept D g i SwapToBoot y f d e = absurd (omega arith)
+
+module _ {D : List ℕ → List ℕ → Type 0} (g : Geometry) (G : Limits g) (old : Flash) {x : Exchange} {b₀ : BootStatus} {u₀ : UpdateStatus} (B : Underway x b₀ u₀) where
   -- a leg is over
   turned : (i : ℕ) (leg : Leg) (r : ℕ) (f : Flash) → i < firmware g → Sound g old (suc (3 * i + legMoves leg)) f
       → bootStatusAt g (f .boot) ≡ gives b₀ → updateStatusAt g (f .update) ≡ gives u₀
-      → suc r + 3 * (3 * i + legMoves leg) + 2 ≡ 9 * firmware g + closingLeft (closing B) → Stage g old B f 0 r
+      → suc r + 3 * (3 * i + legMoves leg) + 2 ≡ 9 * firmware g + closingLeft (closing B) → Stage D g old B f 0 r
   turned i UpdateToSwap r f hi s e₁ e₂ n =
       let e : suc (3 * i + 0) ≡ 3 * i + 1 = omega arith in
-      in-leg i BootToUpdate hi (omega arith) (subst (λ (a : ℕ). Sound g old a f) e s) e₁ e₂ (λ k. absurd (omega arith)) (omega arith)
+      in-leg i BootToUpdate hi (omega arith) (subst (λ (a : ℕ). Sound g old a f) e s) (λ k. absurd (omega arith)) e₁ e₂ (λ k. absurd (omega arith)) (omega arith)
   turned i BootToUpdate r f hi s e₁ e₂ n =
       let e : suc (3 * i + 1) ≡ 3 * i + 2 = omega arith in
-      in-leg i SwapToBoot hi (omega arith) (subst (λ (a : ℕ). Sound g old a f) e s) e₁ e₂ (λ k. absurd (omega arith)) (omega arith)
+      in-leg i SwapToBoot hi (omega arith) (subst (λ (a : ℕ). Sound g old a f) e s) (λ k. absurd (omega arith)) e₁ e₂ (λ k. absurd (omega arith)) (omega arith)
   turned i SwapToBoot r f hi s e₁ e₂ n = by (decLt (suc i) (firmware g))
     where
-      by : Dec (suc i < firmware g) → Stage g old B f 0 r
+      by : Dec (suc i < firmware g) → Stage D g old B f 0 r
       by (yes h) =
           let e : suc (3 * i + 2) ≡ 3 * suc i + 0 = omega arith in
-          in-leg (suc i) UpdateToSwap h (omega arith) (subst (λ (a : ℕ). Sound g old a f) e s) e₁ e₂ (λ k. absurd (omega arith)) (omega arith)
+          in-leg (suc i) UpdateToSwap h (omega arith) (subst (λ (a : ℕ). Sound g old a f) e s) (λ k. absurd (omega arith)) e₁ e₂ (λ k. absurd (omega arith)) (omega arith)
       by (no h) =
           let e : suc (3 * i + 2) ≡ 3 * firmware g = omega arith in
           at-last b₀ u₀ (closing B) (omega arith) (crossed g G old f (subst (λ (a : ℕ). Sound g old a f) e s)) e₁ e₂ (omega arith) refl
 
   -- the leg's sector is written with y
   within : (i : ℕ) (leg : Leg) (p r : ℕ) (f : Flash) → i < firmware g → Sound g old (3 * i + legMoves leg) f
+      → (3 * i + legMoves leg ≡ 0 → D (f .boot) (f .update))
       → bootStatusAt g (f .boot) ≡ gives b₀ → updateStatusAt g (f .update) ≡ gives u₀ → (y : List ℕ) → length y ≡ g .size
       → p < 3 → (p ≡ 2 → Ready g leg i (put g (target leg) i y f)) → r + 3 * (3 * i + legMoves leg) + p ≡ 9 * firmware g + closingLeft (closing B)
-      → Stage g old B (put g (target leg) i y f) p r
-  within i leg p r f hi s e₁ e₂ y Y hp ready n =
-      in-leg i leg hi hp (scratch g G old i leg hi f s y Y)
+      → Stage D g old B (put g (target leg) i y f) p r
+  within i leg p r f hi s d e₁ e₂ y Y hp ready n =
+      in-leg i leg hi hp (scratch g G old i leg hi f s y Y) (kept D g i leg y f d)
       (put-boot-status g G (target leg) i y f Y (s .shaped) hi ∙ e₁)
       (put-update-status g G (target leg) i y f Y (s .shaped) hi ∙ e₂)
       ready n
 
-  pub step : (f : Flash) (p r : ℕ) → Stage g old B f p (suc r) → Stepped g old B f p r
-  step f zero r (in-leg i leg hi hp s e₁ e₂ ready n) =
+  pub step : (f : Flash) (p r : ℕ) → Stage D g old B f p (suc r) → Stepped D g old B f p r
+  step f zero r (in-leg i leg hi hp s d e₁ e₂ ready n) =
       stepped (Erase (target leg) (sectorNumber i))
       (next-leg g x b₀ u₀ B 0 i leg f e₁ e₂ (shown-leg g (f .update) i leg hi (s .moves)))
-      (within i leg 1 r f hi s e₁ e₂ (erased (g .size)) (length-erased (g .size)) (omega arith) (λ k. absurd (omega arith)) (omega arith))
-      (λ t T. (suc r + 0, omega arith, within i leg 0 (suc r + 0) f hi s e₁ e₂ (t .bytes) T (omega arith) (λ k. absurd (omega arith)) (omega arith)))
-  step f (suc zero) r (in-leg i leg hi hp s e₁ e₂ ready n) =
+      (within i leg 1 r f hi s d e₁ e₂ (erased (g .size)) (length-erased (g .size)) (omega arith) (λ k. absurd (omega arith)) (omega arith))
+      (λ t T. (suc r + 0, omega arith, within i leg 0 (suc r + 0) f hi s d e₁ e₂ (t .bytes) T (omega arith) (λ k. absurd (omega arith)) (omega arith)))
+  step f (suc zero) r (in-leg i leg hi hp s d e₁ e₂ ready n) =
       stepped (Copy leg (sectorNumber i))
       (next-leg g x b₀ u₀ B 1 i leg f e₁ e₂ (shown-leg g (f .update) i leg hi (s .moves)))
-      (within i leg 2 r f hi s e₁ e₂ (get g (source leg) i f) (length-source g G old i leg hi f s) (omega arith) (λ k. copied g G old i leg hi f s) (omega arith))
-      (λ t T. (suc r + 1, omega arith, within i leg 0 (suc r + 1) f hi s e₁ e₂ (t .bytes) T (omega arith) (λ k. absurd (omega arith)) (omega arith)))
-  step f (suc (suc zero)) r (in-leg i leg hi hp s e₁ e₂ ready n) =
-      let next : Stage g old B (perform g (WriteFlag (sectorNumber i) (nextFlag leg)) f) 0 r
+      (within i leg 2 r f hi s d e₁ e₂ (get g (source leg) i f) (length-source g G old i leg hi f s) (omega arith) (λ k. copied g G old i leg hi f s) (omega arith))
+      (λ t T. (suc r + 1, omega arith, within i leg 0 (suc r + 1) f hi s d e₁ e₂ (t .bytes) T (omega arith) (λ k. absurd (omega arith)) (omega arith)))
+  step f (suc (suc zero)) r (in-leg i leg hi hp s d e₁ e₂ ready n) =
+      let next : Stage D g old B (perform g (WriteFlag (sectorNumber i) (nextFlag leg)) f) 0 r
       = turned i leg r (perform g (WriteFlag (sectorNumber i) (nextFlag leg)) f) hi (advance g G old i leg hi f s (ready refl)) e₁
       (ap updateStatusOf (status-flag g G (f .update) (s .shaped .update) i (nextFlag leg) hi) ∙ e₂) n in
       stepped (WriteFlag (sectorNumber i) (nextFlag leg))
       (next-leg g x b₀ u₀ B 2 i leg f e₁ e₂ (shown-leg g (f .update) i leg hi (s .moves)))
       next
       (λ t T. either g old x b₀ u₀ B (t .new) f (perform g (WriteFlag (sectorNumber i) (nextFlag leg)) f) 2 r next
-      (in-leg i leg hi (omega arith) s e₁ e₂ (λ k. absurd (omega arith)) (omega arith)))
-  step f (suc (suc (suc p))) r (in-leg i leg hi hp s e₁ e₂ ready n) = absurd (omega arith)
+      (in-leg i leg hi (omega arith) s d e₁ e₂ (λ k. absurd (omega arith)) (omega arith)))
+  step f (suc (suc (suc p))) r (in-leg i leg hi hp s d e₁ e₂ ready n) = absurd (omega arith)
   step f p r (at-last b u c le s e₁ e₂ n z) =
-      subst (λ (q : ℕ). Stepped g old B f q r) (sym z) (last-step g G old x b₀ u₀ B f r b u c le s e₁ e₂ n)
+      subst (λ (q : ℕ). Stepped D g old B f q r) (sym z) (last-step g G old x b₀ u₀ B f r b u c le s e₁ e₂ n)
   step f p r (at-end b u c y s e₁ e₂ n z) = absurd (omega arith)

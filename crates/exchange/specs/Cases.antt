@@ -20,6 +20,7 @@ use Rattle.status.specs.StatusBytes.{bootStatusAt, updateStatusAt}
 use Rattle.trailer.specs.SectorFlags.{flagsAt}
 use Rattle.exchange.specs.Decision.{Check}
 use Rattle.exchange.specs.PowerUp.{Outcome, refusal, cut, runsOnTest, runsFallenBack, powerUp}
+use Rattle.exchange.specs.Along.{stateAfter}
 use Rattle.exchange.specs.Demand.{Exchange, update, fallback, ReadsFirmware}
 
 -- n = 3 and S = 256.
@@ -60,9 +61,8 @@ Ready fallback check f = FallbackReady check f
 
 -- ---- power-ups with these budgets, one after the other, none of them torn
 
-unfoldable pub after : Check → Flash → List ℕ → Flash
-after check f [] = f
-after check f (b ∷ bs) = after check ((powerUp check three f b) .flash) bs
+abbrev pub after : Check → Flash → List ℕ → Flash
+after check f bs = stateAfter (λ before b. (powerUp check three before b) .flash) f bs
 
 unfoldable pub counts : Check → Flash → List ℕ → List ℕ
 counts check f [] = []

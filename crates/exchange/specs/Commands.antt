@@ -16,12 +16,7 @@ use Rattle.status.specs.StatusBytes.{bootStatusAt, updateStatusAt}
 use Rattle.trailer.specs.SectorFlags.{flagsAt}
 use Rattle.exchange.specs.declared.Operation.{Operation}
 use Rattle.exchange.specs.declared.Operation.the-variants.{EraseUpdateTrailer, WriteBootStatus, WriteUpdateStatus}
-use Rattle.exchange.specs.Operations.{perform}
-
--- Operations one after the other.
-abbrev pub performAll : Geometry → List Operation → Flash → Flash
-performAll g [] f = f
-performAll g (o ∷ os) f = performAll g os (perform g o f)
+use Rattle.exchange.specs.Operations.{performAll}
 
 -- What a command answers, the number of its operations or a refusal, and what it leaves.
 pub record Command : Type 0 where

@@ -1,4 +1,5 @@
 -- Document 01, "Power-up": the checks before the work, and what they decide.
+use mathlib.Core.Path.{_≡_}
 use mathlib.Core.Bool.{cond}
 use mathlib.Core.List.{List}
 use Prim.Native.Nat.{ℕ}
@@ -20,6 +21,11 @@ use Rattle.exchange.specs.declared.Job.the-variants.{Update, Fallback, T
 -- The image check, as the rules use it: a partition's version, or the refusal of its image.
 abbrev pub Check : Type 0
 Check = Geometry → List ℕ → Answer ℕ
+
+-- An image that the check takes, whatever its version.
+pub record Good (image : Answer ℕ) : Type 0 where
+  pub version : ℕ
+  pub good : image ≡ gives version
 
 -- Why an update was turned down: a number and its place. Other power-ups have no reason.
 pub data Reason : Type 0 where

@@ -1,9 +1,9 @@
--- Demand 3: every list of power-ups from an accepted update, or from a fallback whose UPDATE is good.
+-- Demand 3: every list of power-ups from an accepted update, from a fallback whose UPDATE is good, and from an exchange that is under way.
 use mathlib.Core.Path.{_≡_}
 use mathlib.Core.Logic.{_⊎_}
 use mathlib.Core.Bool.{true, false}
-use mathlib.Core.List.{List, [], _∷_}
-use Prim.Native.Nat.{ℕ, _+_, _*_, _≤_, _<_}
+use mathlib.Core.List.{List}
+use Prim.Native.Nat.{ℕ, _+_, _-_, _*_, _≤_, _<_}
 use lib.ListN.{length}
 use Rattle.refusals.specs.Answer.{gives}
 use Rattle.flash.specs.declared.Geometry.{Geometry}
@@ -11,23 +11,26 @@ use Rattle.flash.specs.Sizes.{firmware, partitionSize}
 use Rattle.flash.specs.Sectors.{firmwareOf, erased}
 use Rattle.flash.specs.Buffers.{Flash, fits}
 use Rattle.status.specs.declared.BootStatus.{BootStatus}
-use Rattle.status.specs.declared.BootStatus.the-variants.{Testing, Success}
-use Rattle.status.specs.declared.UpdateStatus.the-variants.{New as UpdateNew}
+use Rattle.status.specs.declared.BootStatus.the-variants.{New as BootNew, Testing, Success}
+use Rattle.status.specs.declared.UpdateStatus.{UpdateStatus}
+use Rattle.status.specs.declared.UpdateStatus.the-variants.{New as UpdateNew, Updating}
 use Rattle.trailer.specs.declared.Flag.{Flag}
 use Rattle.trailer.specs.declared.Flag.the-variants.{Untouched, Saved, Moved, Exchanged}
 use Rattle.trailer.specs.declared.FlagRead.the-variants.{Known}
-use Rattle.trailer.specs.declared.Flags.the-variants.{AllF}
+use Rattle.trailer.specs.declared.Flags.{Flags}
+use Rattle.trailer.specs.declared.Flags.the-variants.{AllF, All0}
 use Rattle.status.specs.StatusBytes.{bootStatusAt, updateStatusAt}
-use Rattle.trailer.specs.SectorFlags.{flagAt, flagsAt}
+use Rattle.trailer.specs.SectorFlags.{moved, flagAt, flagsAt}
 use Rattle.exchange.specs.declared.Area.the-variants.{Boot, Update}
 use Rattle.exchange.specs.declared.Job.{Job}
 use Rattle.exchange.specs.declared.Job.the-variants.{Update as UpdateJob, Fallback as FallbackJob}
 use Rattle.exchange.specs.Operations.{get, oldBootIn, oldUpdateIn}
-use Rattle.exchange.specs.Decision.{Check, noReason, work, decide}
+use Rattle.exchange.specs.Decision.{Check, Good, noReason, work, decide}
 use Rattle.exchange.specs.PowerUp.{Outcome, refusal, cut, runs, runsOnTest, runsFallenBack, PowerUp, doneOutcome, powerUp, nextAfter}
 use Rattle.exchange.specs.LostPower.{Torn, tearNext}
+use Rattle.exchange.specs.Along.{stateAfter, Along, summed}
 
--- ---- where a list starts
+-- ---- the exchanges
 
 -- The two kinds of exchange, and the job of the rules that each one is.
 pub data Exchange : Type 0 where
@@ -38,16 +41,16 @@ abbrev pub jobOf : Exchange → Job
 jobOf update = UpdateJob
 jobOf fallback = FallbackJob
 
--- All flags are F, and the checks of power-up decide for the exchange: an update is accepted, or a fallback's UPDATE is good. So the
--- geometry and the three lengths are within the rules, and the status bytes are those of the exchange.
-pub record Starts (check : Check) (x : Exchange) (g : Geometry) (f : Flash) : Type 0 where
-  pub decided : decide check g f ≡ work (jobOf x) noReason
-  pub flagsF : flagsAt g (f .update) ≡ AllF
+-- BOOT's and UPDATE's status from the start of an exchange to its last leg.
+pub data Underway : Exchange → BootStatus → UpdateStatus → Type 0 where
+  from-new : Underway update BootNew Updating
+  from-success : Underway update Success Updating
+  from-testing : Underway fallback Testing UpdateNew
 
--- The image check reads the firmware sectors and nothing else: partitions that agree there get the same answer.
-abbrev pub ReadsFirmware : Check → Geometry → Type 0
-ReadsFirmware check g =
-    (l l′ : List ℕ) → length l ≡ partitionSize g → length l′ ≡ partitionSize g → firmwareOf g l ≡ firmwareOf g l′ → check g l ≡ check g l′
+-- The same of an exchange of m sectors that is a moves along: once all flags are 0 an update shows TESTING too, before its last operation.
+pub data StatusesAt (m : ℕ) : Exchange → ℕ → BootStatus → UpdateStatus → Type 0 where
+  inLegs : {x : Exchange} {a : ℕ} {b : BootStatus} {u : UpdateStatus} → Underway x b u → StatusesAt m x a b u
+  atClose : {a : ℕ} → a ≡ 3 * m → StatusesAt m update a Testing Updating
 
 -- The finish: the last operation's new bytes stand, however the power-up ended that wrote them. An update's last operation erases the
 -- UPDATE trailer sector, and UPDATE reads NEW from then on; a fallback's writes SUCCESS in BOOT.
@@ -55,22 +58,57 @@ abbrev pub Finished : Exchange → Geometry → Flash → Type 0
 Finished update g f = updateStatusAt g (f .update) ≡ gives UpdateNew
 Finished fallback g f = bootStatusAt g (f .boot) ≡ gives Success
 
+-- ---- where the old sectors stand
+
+-- Sector i's flag is one of the four, and by that flag the table of places says where the old BOOT sector i and the old UPDATE
+-- sector i stand, unharmed. `old` is the flash where the exchange started.
+pub record InPlace (g : Geometry) (old f : Flash) (i : ℕ) : Type 0 where
+  pub flag : Flag
+  pub reads : flagAt g (f .update) i ≡ Known flag
+  pub oldBoot : get g (oldBootIn flag) i f ≡ get g Boot i old
+  pub oldUpdate : get g (oldUpdateIn flag) i f ≡ get g Update i old
+
+-- An exchange stands a moves along: each flag makes three moves, one sector after the other, and the flags are those after a moves in
+-- all; each old sector is where the table of places has it.
+pub record Stands (g : Geometry) (old f : Flash) (a : ℕ) : Type 0 where
+  pub within : a ≤ 3 * firmware g
+  pub flags : (i : ℕ) → i < firmware g → flagAt g (f .update) i ≡ Known (moved (a - 3 * i))
+  pub inPlace : (i : ℕ) → i < firmware g → InPlace g old f i
+
+-- ---- where a list starts
+
+-- Demand 3's own start: all flags are F, and the checks of power-up decide for the exchange: an update is accepted, or a fallback's
+-- UPDATE is good. So the geometry and the three lengths are within the rules, and the status bytes are those of the exchange.
+pub record Starts (check : Check) (x : Exchange) (g : Geometry) (f : Flash) : Type 0 where
+  pub decided : decide check g f ≡ work (jobOf x) noReason
+  pub flagsF : flagsAt g (f .update) ≡ AllF
+
+-- Any other start: an exchange of what `old` holds is under way, a moves along. The geometry, the lengths and the statuses are right, the
+-- old UPDATE image is good, and where all flags are F the checks decide for the exchange.
+pub record Ongoing (check : Check) (x : Exchange) (g : Geometry) (old f : Flash) (a : ℕ) : Type 0 where
+  pub fit : fits g f ≡ true
+  pub boot : BootStatus
+  pub update : UpdateStatus
+  pub statuses : StatusesAt (firmware g) x a boot update
+  pub readBoot : bootStatusAt g (f .boot) ≡ gives boot
+  pub readUpdate : updateStatusAt g (f .update) ≡ gives update
+  pub stands : Stands g old f a
+  pub oldWhole : length (old .update) ≡ partitionSize g
+  pub oldGood : Good (check g (old .update))
+  pub decided : flagsAt g (f .update) ≡ AllF → decide check g f ≡ work (jobOf x) noReason
+
+-- The image check reads the firmware sectors and nothing else: partitions that agree there get the same answer.
+abbrev pub ReadsFirmware : Check → Geometry → Type 0
+ReadsFirmware check g =
+    (l l′ : List ℕ) → length l ≡ partitionSize g → length l′ ≡ partitionSize g → firmwareOf g l ≡ firmwareOf g l′ → check g l ≡ check g l′
+
 -- ---- a power-up of the list
 
--- A power-up loses no power, or it loses power after k completed operations, and then the next one is torn.
-pub data Ending : Type 0 where
-  untorn : Ending
-  lost : ℕ → Torn → Ending
-
--- Each has its own budget, and its own geometry, which may be a wrong one.
-pub record Event : Type 0 where
-  pub geometry : Geometry
-  pub budget : ℕ
-  pub ending : Ending
-
--- What the call answers if no power is lost.
-abbrev pub answer : Check → Flash → Event → PowerUp
-answer check f e = powerUp check (e .geometry) f (e .budget)
+-- Each has its own geometry, which may be a wrong one, and its own budget. It keeps its power; or it loses power after k completed
+-- operations, and then the next one is torn.
+pub data Event : Type 0 where
+  untorn : Geometry → ℕ → Event
+  lost : Geometry → ℕ → ℕ → Torn → Event
 
 -- What it leaves: the bytes, how many operations were completed, and 1 if it ended early, else 0.
 pub record Left : Type 0 where
@@ -85,61 +123,42 @@ isCut runs = 0
 isCut runsOnTest = 0
 isCut runsFallenBack = 0
 
+abbrev pub leftUntorn : PowerUp → Left
+leftUntorn a = record { flash = a .flash; done = a .count; early = isCut (a .outcome) }
+
 -- Untorn: what the call itself leaves and counts, and "cut" is an early end. Power lost after k: what the same call leaves with the
 -- budget k, with its next operation torn; k are counted, the torn one is not, and the end is early. Where the budget is used up at k,
 -- this allows a torn operation that the call would not have begun: more than can happen.
-abbrev pub leftBy : Check → Flash → Event → Ending → Left
-leftBy check f e untorn =
-    record { flash = (answer check f e) .flash; done = (answer check f e) .count; early = isCut ((answer check f e) .outcome) }
-leftBy check f e (lost k t) = record {
-  flash = tearNext (e .geometry) t (nextAfter check (e .geometry) f k) ((powerUp check (e .geometry) f k) .flash);
-  done = k;
-  early = 1;
-}
-
 unfoldable pub left : Check → Flash → Event → Left
-left check f e = leftBy check f e (e .ending)
+left check f (untorn g budget) = leftUntorn (powerUp check g f budget)
+left check f (lost g budget k t) = record { flash = tearNext g t (nextAfter check g f k) ((powerUp check g f k) .flash); done = k; early = 1 }
 
 -- ---- a list of them
 
--- Power fails after no more operations than the call would do with its budget, so after none if it is refused; torn bytes fill a sector.
-abbrev pub EndsAsAllowed : Check → Geometry → Flash → Event → Ending → Type 0
-EndsAsAllowed check g f e untorn = Unit {0}
-EndsAsAllowed check g f e (lost k t) = (k ≤ (answer check f e) .count) × (length (t .bytes) ≡ g .size)
+-- The flash goes from one power-up to the next.
+abbrev pub flashLeft : Check → Flash → Event → Flash
+flashLeft check f e = (left check f e) .flash
 
--- The lists that 01 allows from the flash f. The flash goes from one power-up to the next, and none comes after the finish.
-unfoldable pub Allowed : Check → Exchange → Geometry → Flash → List Event → Type 0
-Allowed check x g f [] = Unit {0}
-Allowed check x g f (e ∷ es) =
-    (¬ Finished x g f) × EndsAsAllowed check g f e (e .ending) × Allowed check x g ((left check f e) .flash) es
+-- Power fails after no more operations than the call would do with its budget, so after none if it is refused; torn bytes fill a sector.
+abbrev pub EndsAsAllowed : Check → Geometry → Flash → Event → Type 0
+EndsAsAllowed check g f (untorn g′ budget) = Unit {0}
+EndsAsAllowed check g f (lost g′ budget k t) = (k ≤ (powerUp check g′ f budget) .count) × (length (t .bytes) ≡ g .size)
+
+-- The lists that 01 allows from the flash f: no power-up comes after the finish.
+abbrev pub Allowed : Check → Exchange → Geometry → Flash → List Event → Type 0
+Allowed check x g f es = Along (flashLeft check) (λ before e after. (¬ Finished x g before) × EndsAsAllowed check g before e) f es
 
 -- The bytes after a list, the operations completed in it, and how many of its power-ups ended early: the c of the bound.
-unfoldable pub flashAfter : Check → Flash → List Event → Flash
-flashAfter check f [] = f
-flashAfter check f (e ∷ es) = flashAfter check ((left check f e) .flash) es
+abbrev pub flashAfter : Check → Flash → List Event → Flash
+flashAfter check f es = stateAfter (flashLeft check) f es
 
-unfoldable pub completed : Check → Flash → List Event → ℕ
-completed check f [] = 0
-completed check f (e ∷ es) = (left check f e) .done + completed check ((left check f e) .flash) es
+abbrev pub completed : Check → Flash → List Event → ℕ
+completed check f es = summed (flashLeft check) (λ before e. (left check before e) .done) f es
 
-unfoldable pub earlyEnds : Check → Flash → List Event → ℕ
-earlyEnds check f [] = 0
-earlyEnds check f (e ∷ es) = (left check f e) .early + earlyEnds check ((left check f e) .flash) es
+abbrev pub earlyEnds : Check → Flash → List Event → ℕ
+earlyEnds check f es = summed (flashLeft check) (λ before e. (left check before e) .early) f es
 
--- ---- what is claimed of a list
-
--- Sector i's flag is one of the four, and by that flag the table of places says where the old BOOT sector i and the old UPDATE
--- sector i stand, unharmed. `old` is the flash where the list starts.
-pub record InPlace (g : Geometry) (old f : Flash) (i : ℕ) : Type 0 where
-  pub flag : Flag
-  pub reads : flagAt g (f .update) i ≡ Known flag
-  pub oldBoot : get g (oldBootIn flag) i f ≡ get g Boot i old
-  pub oldUpdate : get g (oldUpdateIn flag) i f ≡ get g Update i old
-
--- Sector i has changed sides: BOOT has the old UPDATE sector, and UPDATE the old BOOT sector.
-pub record SectorExchanged (g : Geometry) (old f : Flash) (i : ℕ) : Type 0 where
-  pub bootHolds : get g Boot i f ≡ get g Update i old
-  pub updateHolds : get g Update i f ≡ get g Boot i old
+-- ---- what is claimed of each power-up
 
 -- A flag goes from F to 7, to 3, to 0: how far it has come.
 abbrev pub flagRank : Flag → ℕ
@@ -166,13 +185,6 @@ pub record FlagNotBack (g : Geometry) (before after : Flash) (i : ℕ) : Type 0 
   pub readAfter : flagAt g (after .update) i ≡ Known is
   pub notBack : flagRank was ≤ flagRank is
 
--- No power-up, torn or not, moves a flag back before the finish.
-unfoldable pub NoFlagBack : Check → Exchange → Geometry → Flash → List Event → Type 0
-NoFlagBack check x g f [] = Unit {0}
-NoFlagBack check x g f (e ∷ es) =
-    (¬ Finished x g ((left check f e) .flash) → (i : ℕ) → i < firmware g → FlagNotBack g f ((left check f e) .flash) i)
-    × NoFlagBack check x g ((left check f e) .flash) es
-
 abbrev pub IsRefusal : Outcome → Type 0
 IsRefusal (refusal n i p) = Unit {0}
 IsRefusal cut = ⊥
@@ -182,29 +194,58 @@ IsRefusal runsFallenBack = ⊥
 
 -- Progress: given three operations or more, a power-up that keeps its power and is not refused comes to the finish, or leaves some
 -- flag further on.
-abbrev pub MovesOn : Check → Exchange → Geometry → Flash → Event → Ending → Type 0
-MovesOn check x g f e untorn =
-    ¬ IsRefusal ((answer check f e) .outcome) → 3 ≤ e .budget → Finished x g ((left check f e) .flash) ⊎ FlagMovedOn g f ((left check f e) .flash)
-MovesOn check x g f e (lost k t) = Unit {0}
-
-unfoldable pub EachMovesOn : Check → Exchange → Geometry → Flash → List Event → Type 0
-EachMovesOn check x g f [] = Unit {0}
-EachMovesOn check x g f (e ∷ es) = MovesOn check x g f e (e .ending) × EachMovesOn check x g ((left check f e) .flash) es
+abbrev pub MovesOn : Check → Exchange → Geometry → Flash → Event → Flash → Type 0
+MovesOn check x g before (untorn g′ budget) after =
+    ¬ IsRefusal ((powerUp check g′ before budget) .outcome) → 3 ≤ budget → Finished x g after ⊎ FlagMovedOn g before after
+MovesOn check x g before (lost g′ budget k t) after = Unit {0}
 
 -- An answer beside the flash that is left: "cut" before the finish, and at the finish the outcome of an exchange that is done.
 abbrev pub CutOrDone : Exchange → Geometry → Outcome → Flash → Type 0
 CutOrDone x g o f = ((o ≡ cut) × (¬ Finished x g f)) ⊎ ((o ≡ doneOutcome (jobOf x)) × Finished x g f)
 
 -- What an untorn power-up answers: refusal 1 for a wrong geometry or length, which is the only refusal; else by what it leaves.
-abbrev pub Answers : Check → Exchange → Geometry → Flash → Event → Ending → Type 0
-Answers check x g f e untorn =
-    ((fits (e .geometry) f ≡ false) × ((answer check f e) .outcome ≡ refusal 1 0 0))
-    ⊎ ((fits (e .geometry) f ≡ true) × CutOrDone x g ((answer check f e) .outcome) ((left check f e) .flash))
-Answers check x g f e (lost k t) = Unit {0}
+abbrev pub Answers : Check → Exchange → Geometry → Flash → Event → Flash → Type 0
+Answers check x g before (untorn g′ budget) after =
+    ((fits g′ before ≡ false) × ((powerUp check g′ before budget) .outcome ≡ refusal 1 0 0))
+    ⊎ ((fits g′ before ≡ true) × CutOrDone x g ((powerUp check g′ before budget) .outcome) after)
+Answers check x g before (lost g′ budget k t) after = Unit {0}
 
-unfoldable pub EachAnswers : Check → Exchange → Geometry → Flash → List Event → Type 0
-EachAnswers check x g f [] = Unit {0}
-EachAnswers check x g f (e ∷ es) = Answers check x g f e (e .ending) × EachAnswers check x g ((left check f e) .flash) es
+-- Each power-up makes progress, none undoes any, torn or not, before the finish, and each answers as it should.
+pub record EachSafe (check : Check) (x : Exchange) (g : Geometry) (before : Flash) (e : Event) (after : Flash) : Type 0 where
+  pub movesOn : MovesOn check x g before e after
+  pub noFlagBack : ¬ Finished x g after → (i : ℕ) → i < firmware g → FlagNotBack g before after i
+  pub answers : Answers check x g before e after
+
+-- ---- what is claimed of the finish
+
+-- Sector i has changed sides: BOOT has the old UPDATE sector, and UPDATE the old BOOT sector.
+pub record SectorExchanged (g : Geometry) (old f : Flash) (i : ℕ) : Type 0 where
+  pub bootHolds : get g Boot i f ≡ get g Update i old
+  pub updateHolds : get g Update i f ≡ get g Boot i old
+
+-- The last operation's bytes: an UPDATE trailer sector that is erased from end to end, or SUCCESS in BOOT.
+abbrev pub LastBytes : Exchange → Geometry → Flash → Type 0
+LastBytes update g f = get g Update (firmware g) f ≡ erased (g .size)
+LastBytes fallback g f = bootStatusAt g (f .boot) ≡ gives Success
+
+-- BOOT's status at the finish, and what the flags show. UPDATE's status is NEW.
+abbrev pub bootAtFinish : Exchange → BootStatus
+bootAtFinish update = Testing
+bootAtFinish fallback = Success
+
+abbrev pub flagsAtFinish : Exchange → Flags
+flagsAtFinish update = AllF
+flagsAtFinish fallback = All0
+
+-- The firmware sectors have changed sides, the last operation's bytes stand, and the statuses and the flags are those of 01.
+pub record AtFinish (x : Exchange) (g : Geometry) (old f : Flash) : Type 0 where
+  pub exchanged : (i : ℕ) → i < firmware g → SectorExchanged g old f i
+  pub lastBytes : LastBytes x g f
+  pub bootStatus : bootStatusAt g (f .boot) ≡ gives (bootAtFinish x)
+  pub updateStatus : updateStatusAt g (f .update) ≡ gives UpdateNew
+  pub flags : flagsAt g (f .update) ≡ flagsAtFinish x
+
+-- ---- what is claimed of a list
 
 -- What an exchange of m firmware sectors takes at most if nothing disturbs it: nine operations for each sector, and those that close
 -- it, three of an update and one of a fallback.
@@ -212,35 +253,30 @@ abbrev pub most : Exchange → ℕ → ℕ
 most update m = 9 * m + 3
 most fallback m = 9 * m + 1
 
--- The last operation's bytes: an UPDATE trailer sector that is erased from end to end, or SUCCESS in BOOT.
-abbrev pub LastBytes : Exchange → Geometry → Flash → Type 0
-LastBytes update g f = get g Update (firmware g) f ≡ erased (g .size)
-LastBytes fallback g f = bootStatusAt g (f .boot) ≡ gives Success
-
--- BOOT's status at the finish. UPDATE's is NEW.
-abbrev pub bootAtFinish : Exchange → BootStatus
-bootAtFinish update = Testing
-bootAtFinish fallback = Success
-
--- All that is claimed of a list, as one claim.
-pub record Safe (check : Check) (x : Exchange) (g : Geometry) (f : Flash) (es : List Event) : Type 0 where
+-- All that is claimed of a list, as one claim. The exchange of what `old` holds stands a moves along at f, where the list starts.
+pub record Safe (check : Check) (x : Exchange) (g : Geometry) (old f : Flash) (a : ℕ) (es : List Event) : Type 0 where
+  -- no length changes
+  pub fit : fits g (flashAfter check f es) ≡ true
   -- before the finish: where the old sectors stand
-  pub inPlace : ¬ Finished x g (flashAfter check f es) → (i : ℕ) → i < firmware g → InPlace g f (flashAfter check f es) i
-  -- the bound on completed operations: an early end costs two more at most, those of a leg that is begun again
-  pub bounded : completed check f es ≤ most x (firmware g) + 2 * earlyEnds check f es
-  -- each power-up makes progress, and none undoes any
-  pub movesOn : EachMovesOn check x g f es
-  pub noFlagBack : NoFlagBack check x g f es
-  -- at the finish the firmware sectors have changed sides, the last operation's bytes stand, and the statuses are those of 01
-  pub exchanged : Finished x g (flashAfter check f es) → (i : ℕ) → i < firmware g → SectorExchanged g f (flashAfter check f es) i
-  pub lastBytes : Finished x g (flashAfter check f es) → LastBytes x g (flashAfter check f es)
-  pub bootStatus : Finished x g (flashAfter check f es) → bootStatusAt g (flashAfter check f es .boot) ≡ gives (bootAtFinish x)
-  pub updateStatus : Finished x g (flashAfter check f es) → updateStatusAt g (flashAfter check f es .update) ≡ gives UpdateNew
-  -- what each power-up answers
-  pub answers : EachAnswers check x g f es
+  pub inPlace : ¬ Finished x g (flashAfter check f es) → (i : ℕ) → i < firmware g → InPlace g old (flashAfter check f es) i
+  -- and the exchange is under way, no fewer moves along, so that all of this holds from there too
+  pub ongoing : ¬ Finished x g (flashAfter check f es) → (b : ℕ) × (a ≤ b) × Ongoing check x g old (flashAfter check f es) b
+  -- the bound on completed operations: three fewer for each move that was made before, and an early end costs two more at most, those of
+  -- a leg that is begun again
+  pub bounded : completed check f es + 3 * a ≤ most x (firmware g) + 2 * earlyEnds check f es
+  -- each power-up of the list, with the flash before and after it
+  pub each : Along (flashLeft check) (EachSafe check x g) f es
+  -- the finish
+  pub atFinish : Finished x g (flashAfter check f es) → AtFinish x g old (flashAfter check f es)
 
--- For every image check that reads the firmware sectors only, every start and every list that 01 allows from there.
+-- For every image check that reads the firmware sectors only, every exchange under way and every list that 01 allows from there.
+abbrev pub Demand3Ongoing : Type 0
+Demand3Ongoing =
+    (check : Check) (x : Exchange) (g : Geometry) (old f : Flash) (a : ℕ) → ReadsFirmware check g → Ongoing check x g old f a → (es : List Event)
+    → Allowed check x g f es → Safe check x g old f a es
+
+-- Demand 3: every start and every list that 01 allows from there. The old sectors are those of the list's first flash, and no move is behind it.
 abbrev pub Demand3 : Type 0
 Demand3 =
     (check : Check) (x : Exchange) (g : Geometry) (f : Flash) → ReadsFirmware check g → Starts check x g f → (es : List Event)
-    → Allowed check x g f es → Safe check x g f es
+    → Allowed check x g f es → Safe check x g f f 0 es

@@ -4,8 +4,9 @@ pub mod Order
 pub mod Decision
 pub mod PowerUp
 pub mod Commands
--- What is claimed of them: power lost in an operation, demand 3, what the rules rule out, the marked cases 1 to 6.
+-- What is claimed of them: power lost in an operation, lists of calls, demand 3, what the rules rule out, the marked cases 1 to 6.
 pub mod LostPower
+pub mod Along
 pub mod Demand
 pub mod Reached
 pub mod RuledOut

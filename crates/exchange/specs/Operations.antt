@@ -1,5 +1,5 @@
 -- Document 01, "Power-up": the single operations, what each does to the three buffers, and the two tables.
-use mathlib.Core.List.{List}
+use mathlib.Core.List.{List, [], _∷_}
 use Prim.Native.Nat.{ℕ, zero, suc}
 use Rattle.flash.specs.declared.Geometry.{Geometry}
 use Rattle.flash.specs.declared.SectorNumber.{SectorNumber}
@@ -82,3 +82,8 @@ perform g EraseBootTrailer f = put g Boot (firmware g) (erased (g .size)) f
 perform g EraseUpdateTrailer f = put g Update (firmware g) (erased (g .size)) f
 perform g (WriteBootStatus v) f = flash (setBootStatus g v (f .boot)) (f .update) (f .swap)
 perform g (WriteUpdateStatus v) f = flash (f .boot) (setUpdateStatus g v (f .update)) (f .swap)
+
+-- Operations one after the other.
+abbrev pub performAll : Geometry → List Operation → Flash → Flash
+performAll g [] f = f
+performAll g (o ∷ os) f = performAll g os (perform g o f)

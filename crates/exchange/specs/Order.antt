@@ -1,4 +1,5 @@
 -- Document 01, "Power-up": the one operation that is next, found by reading the status bytes and the flags.
+use mathlib.Core.List.{List, [], _∷_}
 use Prim.Native.Nat.{ℕ, zero, suc}
 use Rattle.refusals.specs.Answer.{Answer, gives, refused}
 use Rattle.flash.specs.declared.Geometry.{Geometry}
@@ -73,13 +74,19 @@ pub record Run : Type 0 where
   pub place : ℕ
   pub flash : Flash
 
+abbrev pub stopped : ℕ → Flash → Run
+stopped p f = record { count = 0; place = p; flash = f }
+
 abbrev pub oneMore : Run → Run
 oneMore r = record { count = suc (r .count); place = r .place; flash = r .flash }
 
-abbrev pub runBy : Next → ℕ → Flash → (ℕ → Run) → Run
-runBy Nothing p f rest = record { count = 0; place = p; flash = f }
-runBy (Do o) p f rest = oneMore (rest (placeAfter o))
-
 unfoldable pub run : Job → Geometry → ℕ → ℕ → Flash → Run
-run job g zero p f = record { count = 0; place = p; flash = f }
-run job g (suc k) p f = let s : Step = step job g p f in runBy (s .next) p (s .flash) (λ q. run job g k q (s .flash))
+run job g zero p f = stopped p f
+run job g (suc k) p f =
+    let s : Step = step job g p f in elim (s .next) [ Nothing ↦ stopped p f | Do o ↦ oneMore (run job g k (placeAfter o) (s .flash)) ]
+
+-- The operations that such a run does, in their order.
+unfoldable pub operations : Job → Geometry → ℕ → ℕ → Flash → List Operation
+operations job g zero p f = []
+operations job g (suc k) p f =
+    let s : Step = step job g p f in elim (s .next) [ Nothing ↦ [] | Do o ↦ o ∷ operations job g k (placeAfter o) (s .flash) ]

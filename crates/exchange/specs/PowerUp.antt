@@ -1,13 +1,15 @@
 -- Document 01, "Power-up": the call with a budget, made only of repeating the single step.
+use mathlib.Core.List.{List, []}
 use Prim.Native.Nat.{ℕ}
 use Rattle.refusals.specs.Answer.{Answer, gives, refused}
 use Rattle.flash.specs.declared.Geometry.{Geometry}
 use Rattle.flash.specs.Buffers.{Flash}
+use Rattle.exchange.specs.declared.Operation.{Operation}
 use Rattle.exchange.specs.declared.Next.{Next}
 use Rattle.exchange.specs.declared.Next.the-variants.{Do, Nothing}
 use Rattle.exchange.specs.declared.Job.{Job}
 use Rattle.exchange.specs.declared.Job.the-variants.{Update, Fallback, TurnDown}
-use Rattle.exchange.specs.Order.{nextOperation, Run, run}
+use Rattle.exchange.specs.Order.{nextOperation, Run, run, operations}
 use Rattle.exchange.specs.Decision.{Check, Reason, noReason, Plan, refuse, plain, work, decide}
 
 -- The outcomes: a refusal (number, inner number, inner place), "cut", "run", "run on test", "run, fallen back".
@@ -64,6 +66,15 @@ carryOut check g f budget (work job reason) = worked check g job reason (run job
 -- A power-up, whole: what the checks decide, carried out within the budget.
 unfoldable pub powerUp : Check → Geometry → Flash → ℕ → PowerUp
 powerUp check g f budget = carryOut check g f budget (decide check g f)
+
+-- The operations that it does, in their order.
+abbrev pub operationsIn : Geometry → Flash → ℕ → Plan → List Operation
+operationsIn g f budget (refuse n i p) = []
+operationsIn g f budget plain = []
+operationsIn g f budget (work job reason) = operations job g budget 0 f
+
+unfoldable pub operationsOf : Check → Geometry → Flash → ℕ → List Operation
+operationsOf check g f budget = operationsIn g f budget (decide check g f)
 
 -- The operation that the same call orders after its first k, if any: the one that a loss of power may tear.
 abbrev pub nextIn : Geometry → Flash → ℕ → Plan → Next

@@ -1,8 +1,8 @@
 -- Demand 3 speaks of something: from every start there is a list that 01 allows, with a refused power-up and a torn copy, that comes to
--- the finish.
+-- the finish; and an exchange under way can stand anywhere.
 use mathlib.Core.Path.{_≡_}
 use mathlib.Core.List.{List, [], _∷_}
-use Prim.Native.Nat.{ℕ, _+_, _≤_}
+use Prim.Native.Nat.{ℕ, _+_, _*_, _≤_}
 use lib.ListN.{length}
 use Rattle.flash.specs.declared.Geometry.{Geometry}
 use Rattle.flash.specs.Sizes.{geometry, firmware}
@@ -14,15 +14,12 @@ use Rattle.exchange.specs.declared.Next.the-variants.{Do}
 use Rattle.exchange.specs.Decision.{Check}
 use Rattle.exchange.specs.PowerUp.{refusal, powerUp, nextAfter}
 use Rattle.exchange.specs.LostPower.{Torn}
-use Rattle.exchange.specs.Demand.{Exchange, ReadsFirmware, Starts, Finished, untorn, lost, Event, Allowed, flashAfter, most}
+use Rattle.exchange.specs.Demand.{Exchange, ReadsFirmware, Starts, Ongoing, Finished, untorn, lost, Event, Allowed, flashAfter, most}
 
 -- A power-up with a geometry of no sectors, one that loses power after its first operation, and one that nothing disturbs.
 abbrev pub roughList : Geometry → Torn → ℕ → List Event
 roughList g t budget =
-    record { geometry = geometry 0 0; budget = budget; ending = untorn }
-    ∷ record { geometry = g; budget = budget; ending = lost 1 t }
-    ∷ record { geometry = g; budget = budget; ending = untorn }
-    ∷ []
+    untorn (geometry 0 0) budget ∷ lost g budget 1 t ∷ untorn g budget ∷ []
 
 -- What holds of that list, from the flash f on.
 pub record Reached (check : Check) (x : Exchange) (g : Geometry) (f : Flash) (t : Torn) (budget : ℕ) : Type 0 where
@@ -36,3 +33,9 @@ abbrev pub FinishReached : Type 0
 FinishReached =
     (check : Check) (x : Exchange) (g : Geometry) (f : Flash) → ReadsFirmware check g → Starts check x g f → (t : Torn) → length (t .bytes) ≡ g .size
     → (budget : ℕ) → most x (firmware g) + 2 ≤ budget → Reached check x g f t budget
+
+-- And every stage is reached: from every start, 3 a operations make a moves.
+abbrev pub StagesReached : Type 0
+StagesReached =
+    (check : Check) (x : Exchange) (g : Geometry) (f : Flash) → Starts check x g f → (a : ℕ) → a ≤ 3 * firmware g
+    → Ongoing check x g f ((powerUp check g f (3 * a)) .flash) a

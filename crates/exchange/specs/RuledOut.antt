@@ -3,27 +3,28 @@ use mathlib.Core.Path.{_≡_}
 use mathlib.Core.Logic.{_≢_}
 use mathlib.Core.Bool.{true}
 use Prim.Native.Nat.{ℕ, _≤_, _<_}
+use lib.ListN.{length, take}
 use Rattle.refusals.specs.Answer.{Answer, gives, refused}
 use Rattle.flash.specs.declared.Geometry.{Geometry}
 use Rattle.flash.specs.declared.SectorNumber.{SectorNumber}
 use Rattle.flash.specs.Sectors.{sectorNumber}
 use Rattle.flash.specs.Buffers.{Flash, fits}
 use Rattle.status.specs.declared.BootStatus.{BootStatus}
-use Rattle.status.specs.declared.BootStatus.the-variants.{New as BootNew, Testing, Success}
+use Rattle.status.specs.declared.BootStatus.the-variants.{Testing}
 use Rattle.status.specs.declared.UpdateStatus.{UpdateStatus}
 use Rattle.status.specs.declared.UpdateStatus.the-variants.{New as UpdateNew, Updating}
 use Rattle.trailer.specs.declared.Leg.{Leg}
 use Rattle.trailer.specs.declared.Leg.the-variants.{UpdateToSwap}
 use Rattle.trailer.specs.declared.Flags.{Flags}
-use Rattle.trailer.specs.declared.Flags.the-variants.{AllF, At, All0}
+use Rattle.trailer.specs.declared.Flags.the-variants.{Malformed, AllF, At, All0}
 use Rattle.status.specs.StatusBytes.{bootStatusAt, updateStatusAt}
 use Rattle.trailer.specs.SectorFlags.{flagsAt}
-use Rattle.exchange.specs.declared.Operation.the-variants.{Erase}
+use Rattle.exchange.specs.declared.Operation.the-variants.{Erase, EraseUpdateTrailer}
 use Rattle.exchange.specs.declared.Job.the-variants.{Update}
-use Rattle.exchange.specs.Operations.{target, perform}
-use Rattle.exchange.specs.Decision.{Check, because, noReason, work, decide}
-use Rattle.exchange.specs.PowerUp.{powerUp}
-use Rattle.exchange.specs.Demand.{Exchange, update, fallback, Starts}
+use Rattle.exchange.specs.Operations.{target, perform, performAll}
+use Rattle.exchange.specs.Decision.{Check, Good, because, noReason, work, decide}
+use Rattle.exchange.specs.PowerUp.{Outcome, refusal, cut, runs, runsOnTest, runsFallenBack, PowerUp, idle, powerUp, operationsOf}
+use Rattle.exchange.specs.Demand.{Exchange, update, fallback, Underway, Starts}
 
 -- What is read of a flash of the right lengths: BOOT's and UPDATE's status, and what the flags show.
 pub record Reads (g : Geometry) (f : Flash) (b : BootStatus) (u : UpdateStatus) (v : Flags) : Type 0 where
@@ -31,12 +32,6 @@ pub record Reads (g : Geometry) (f : Flash) (b : BootStatus) (u : UpdateStatus) 
   pub boot : bootStatusAt g (f .boot) ≡ gives b
   pub update : updateStatusAt g (f .update) ≡ gives u
   pub flags : flagsAt g (f .update) ≡ v
-
--- The statuses from the start of an exchange to its last leg.
-pub data Underway : Exchange → BootStatus → UpdateStatus → Type 0 where
-  from-new : Underway update BootNew Updating
-  from-success : Underway update Success Updating
-  from-testing : Underway fallback Testing UpdateNew
 
 -- By the image checks of UPDATE and of BOOT: both are good, and UPDATE's version is greater.
 pub record Newer (u b : Answer ℕ) : Type 0 where
@@ -46,10 +41,31 @@ pub record Newer (u b : Answer ℕ) : Type 0 where
   pub bootGood : b ≡ gives old
   pub newer : old < new
 
--- UPDATE is good, whatever its version.
-pub record Good (u : Answer ℕ) : Type 0 where
-  pub version : ℕ
-  pub good : u ≡ gives version
+-- An outcome that starts what is in BOOT.
+abbrev pub IsRun : Outcome → Type 0
+IsRun (refusal n i p) = ⊥
+IsRun cut = ⊥
+IsRun runs = Unit {0}
+IsRun runsOnTest = Unit {0}
+IsRun runsFallenBack = Unit {0}
+
+-- Turned down: one operation, which erases the UPDATE trailer sector.
+pub record TurnedDown (g : Geometry) (f : Flash) (a : PowerUp) : Type 0 where
+  pub counts : a .count ≡ 1
+  pub erases : a .flash ≡ perform g EraseUpdateTrailer f
+
+-- The numbers of the refusals that come before any operation.
+pub data BeforeWork : ℕ → Type 0 where
+  outsideRules : BeforeWork 1
+  statusNotAllowed : BeforeWork 10
+  flagsNotWellFormed : BeforeWork 11
+  noGoodFallback : BeforeWork 13
+
+-- Refused with number n before any operation: no byte is changed.
+pub record RefusedBefore (n : ℕ) (f : Flash) (a : PowerUp) : Type 0 where
+  pub number : BeforeWork n
+  pub counts : a .count ≡ 0
+  pub same : a .flash ≡ f
 
 pub record RuledOut : Type 0 where
   -- no update is begun that is bad or not newer, or over a bad BOOT; no fallback to a bad UPDATE
@@ -76,3 +92,25 @@ pub record RuledOut : Type 0 where
       → (powerUp check g f 1) .flash ≡ perform g (Erase (target UpdateToSwap) (sectorNumber 0)) f
   -- no more operations than the budget
   pub withinBudget : (check : Check) (g : Geometry) (f : Flash) (budget : ℕ) → (powerUp check g f budget) .count ≤ budget
+  -- the count is the number of the operations done, the flash is what these leave, one after the other, and a smaller budget k does the
+  -- first k of them
+  pub counted : (check : Check) (g : Geometry) (f : Flash) (budget : ℕ) → (powerUp check g f budget) .count ≡ length (operationsOf check g f budget)
+  pub performed : (check : Check) (g : Geometry) (f : Flash) (budget : ℕ) → (powerUp check g f budget) .flash ≡ performAll g (operationsOf check g f budget) f
+  pub firstOnes : (check : Check) (g : Geometry) (f : Flash) (k budget : ℕ) → k ≤ budget → operationsOf check g f k ≡ take k (operationsOf check g f budget)
+  -- nothing is run that is bad: BOOT's image in the flash that is left is good
+  pub runsGood : (check : Check) (g : Geometry) (f : Flash) (budget : ℕ) → IsRun ((powerUp check g f budget) .outcome)
+      → Good (check g ((powerUp check g f budget) .flash .boot))
+  -- a power-up that gives a reason has turned the update down, if it may do an operation
+  pub reasonErases : (check : Check) (g : Geometry) (f : Flash) (budget n p : ℕ) → (powerUp check g f budget) .reason ≡ because n p → 1 ≤ budget
+      → TurnedDown g f (powerUp check g f budget)
+  -- with UPDATING and TESTING, flags that are not all 0 are 11
+  pub closingOnly : (check : Check) (g : Geometry) (f : Flash) (v : Flags) (budget : ℕ) → Reads g f Testing Updating v → v ≢ All0
+      → powerUp check g f budget ≡ idle (refusal 11 0 0) f
+  -- flags that are not well formed are 11, in an update and in a fallback
+  pub malformedRefused : (check : Check) (x : Exchange) (g : Geometry) (f : Flash) (b : BootStatus) (u : UpdateStatus) (budget : ℕ) → Underway x b u
+      → Reads g f b u Malformed → powerUp check g f budget ≡ idle (refusal 11 0 0) f
+  -- a refusal other than 12 is 1, 10, 11 or 13, and comes before any operation
+  pub refusedBefore : (check : Check) (g : Geometry) (f : Flash) (budget n i p : ℕ) → (powerUp check g f budget) .outcome ≡ refusal n i p → n ≢ 12
+      → RefusedBefore n f (powerUp check g f budget)
+  -- whatever the outcome, also with 12: where no operation is counted no byte is changed
+  pub noneCounted : (check : Check) (g : Geometry) (f : Flash) (budget : ℕ) → (powerUp check g f budget) .count ≡ 0 → (powerUp check g f budget) .flash ≡ f

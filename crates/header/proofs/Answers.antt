@@ -1,75 +1,100 @@
--- What the reader answers, by the tests on the way. Assumes nothing.
-use mathlib.Core.Path.{_≡_, sym, ap, _∙_}
+-- What the search for tags and the reader answer, by the tests on the way. Assumes nothing.
+use mathlib.Core.Path.{_≡_, refl, sym, ap, _∙_}
 use Prim.Native.Nat.{ℕ, _≤_, _<_}
 use mathlib.Core.List.{List}
+use mathlib.Core.Bool.{Bool, true, false, cond, not}
 use lib.ListN.{length, take}
+use lib.Seq.{length-take-le}
+use lib.Dec.{ltb, eqb}
 use native.Mathlib.Omega.{arith}
-use native.Mathlib.Decide.{decLt}
-use borrow.Author.Tests.{lt-ltb, le-ltb, eq-eqb, ne-eqb}
+use borrow.Author.Tests.{lt-ltb, le-ltb, eq-eqb, ne-eqb, ltb-false, eqb-false}
 use Rattle.refusals.specs.Answer.{Answer, gives, refused, then}
 use Rattle.tags.specs.Bytes.{number}
 use Rattle.tags.proofs.Laws.{refused-gives}
 use Rattle.places.specs.declared.HeaderOutcome.{HeaderOutcome}
 use Rattle.places.specs.declared.HeaderOutcome.the-variants.{Accepted}
+use Rattle.places.specs.declared.Places.{Places}
 use Rattle.places.specs.Table.{documentTable}
-use Rattle.places.specs.Judging.{answerOf, placesIn}
+use Rattle.places.specs.Judging.{answerOf, placesIn, Within, Finds}
+use Rattle.places.proofs.Fitting.{found-within}
 use Rattle.places.proofs.Refusals.{refusing}
 use Rattle.header.specs.declared.Header.{Header}
 use Rattle.header.specs.declared.HeaderAnswer.{HeaderAnswer}
-use Rattle.header.specs.Reading.{magic, part, valuesAt, readHeader, blank, valuesOf, Reads}
+use Rattle.header.specs.Reading.{magic, part, tagPlaces, valuesAt, readHeader, blank, valuesOf, Reads}
 
--- a refusal, with a blank header
-pub turned : {s : List ℕ} {r : HeaderAnswer} {o : HeaderOutcome} {n p : ℕ} → (r .outcome ≡ o) × (r .header ≡ blank)
-    → answerOf o (r .header) ≡ refused n p → readHeader s ≡ refused n p → Reads s r
-turned {s} {r} w x y =
-    record {
-      outcome = ap (λ (z : HeaderOutcome). answerOf z (r .header)) (w .0) ∙ x ∙ sym y;
-      values = w .1 ∙ sym (ap valuesOf y);
-    }
+-- ---- where the tags stand
 
 module _ (s : List ℕ) where
-  pub short : length s < 256 → readHeader s ≡ refused 16 0
-  unfolding readHeader
+  pub short : length s < 256 → tagPlaces s ≡ refused 16 0
+  unfolding tagPlaces
   short a = simp (lt-ltb _ _ a)
 
   module _ (room : 256 ≤ length s) {m : ℕ} (em : m ≡ number (part (take 256 s) 0 4)) where
-    pub no-magic : (m ≡ number magic → ⊥) → readHeader s ≡ refused 2 0
-    unfolding readHeader
+    pub no-magic : (m ≡ number magic → ⊥) → tagPlaces s ≡ refused 2 0
+    unfolding tagPlaces
     no-magic b = simp (le-ltb _ _ room, ne-eqb _ _ (rw em at b))
 
     module _ (is : m ≡ number magic) {z : ℕ} (ez : z ≡ number (part (take 256 s) 4 4)) where
-      pub no-size : z ≡ 0 → readHeader s ≡ refused 3 4
-      unfolding readHeader
+      pub no-size : z ≡ 0 → tagPlaces s ≡ refused 3 4
+      unfolding tagPlaces
       no-size b = simp (le-ltb _ _ room, eq-eqb _ _ (sym em ∙ is), eq-eqb _ _ (sym ez ∙ b))
 
-      pub by-tags : (z ≡ 0 → ⊥) → readHeader s ≡ then (placesIn documentTable (take 256 s)) (λ l. gives (valuesAt (take 256 s) l))
-      unfolding readHeader
+      pub by-tags : (z ≡ 0 → ⊥) → tagPlaces s ≡ placesIn documentTable (take 256 s)
+      unfolding tagPlaces
       by-tags b = simp (le-ltb _ _ room, eq-eqb _ _ (sym em ∙ is), ne-eqb _ _ (rw ez at b))
 
--- the tags are in order
-pub taken-in : {s : List ℕ} {v : Header} (o : HeaderOutcome) (l : List ℕ) → answerOf o l ≡ placesIn documentTable (take 256 s) → o ≡ Accepted
-    → v ≡ valuesAt (take 256 s) l
-    → readHeader s ≡ then (placesIn documentTable (take 256 s)) (λ l. gives (valuesAt (take 256 s) l))
-    → Reads s (record { outcome = Accepted; header = v })
-taken-in {s} {v} o l out is val by =
-    let f : List ℕ → Answer Header = λ x. gives (valuesAt (take 256 s) x) in
-    let e : readHeader s ≡ gives v =
-    by ∙ ap (λ (a : Answer (List ℕ)). then a f) (sym out ∙ ap (λ (x : HeaderOutcome). answerOf x l) is) ∙ ap gives (sym val) in
-    record { outcome = sym e; values = sym (ap valuesOf e) }
+-- what places that are given tell of the bytes
+pub record Located (s l : List ℕ) : Type 0 where
+  pub room : 256 ≤ length s
+  pub some : number (part (take 256 s) 4 4) ≡ 0 → ⊥
+  pub found : placesIn documentTable (take 256 s) ≡ gives l
+  pub within : Within documentTable l 256
 
--- the tags are refused
-pub turned-on : {s : List ℕ} {o : HeaderOutcome} {r : HeaderAnswer} (l : List ℕ) → answerOf o l ≡ placesIn documentTable (take 256 s)
-    → (o ≡ Accepted → ⊥) → (r .outcome ≡ o) × (r .header ≡ blank)
-    → readHeader s ≡ then (placesIn documentTable (take 256 s)) (λ l. gives (valuesAt (take 256 s) l)) → Reads s r
-turned-on {s} {o} {r} l out not w by =
-    let f : List ℕ → Answer Header = λ x. gives (valuesAt (take 256 s) x) in
-    let h = refusing o not in
-    turned w (h .is (r .header)) (by ∙ ap (λ (a : Answer (List ℕ)). then a f) (sym out ∙ h .is l))
-
--- a header that is accepted has its bytes
-pub accepted-room : (s : List ℕ) (v : Header) → readHeader s ≡ gives v → 256 ≤ length s
-accepted-room s v e = go (decLt (length s) 256)
+pub located : (s l : List ℕ) → tagPlaces s ≡ gives l → Located s l
+unfolding tagPlaces
+located s l e =
+    go (ltb (length s) 256) (eqb (number (part (take 256 s) 0 4)) (number magic)) (eqb (number (part (take 256 s) 4 4)) 0) refl refl e
   where
-    go : Dec (length s < 256) → 256 ≤ length s
-    go (yes lt) = refused-gives (sym (short s lt) ∙ e)
-    go (no ge) = omega arith
+    go : (b₁ b₂ b₃ : Bool) → ltb (length s) 256 ≡ b₁ → eqb (number (part (take 256 s) 4 4)) 0 ≡ b₃
+        → cond b₁ (refused 16 0) (cond (not b₂) (refused 2 0) (cond b₃ (refused 3 4) (placesIn documentTable (take 256 s)))) ≡ gives l
+        → Located s l
+    go true b₂ b₃ x y e = refused-gives e
+    go false false b₃ x y e = refused-gives e
+    go false true true x y e = refused-gives e
+    go false true false x y e =
+        let room : 256 ≤ length s = ltb-false _ _ x in
+        let len : length (take 256 s) ≡ 256 = length-take-le 256 s room in
+        record {
+          room = room;
+          some = eqb-false _ _ y;
+          found = e;
+          within = rw len at (found-within (take 256 s) l (omega arith) e);
+        }
+
+-- ---- the reader
+
+-- by what the search gave
+pub by-places : (s : List ℕ) {a : Answer (List ℕ)} → tagPlaces s ≡ a → readHeader s ≡ then a (λ l. gives (valuesAt (take 256 s) l))
+unfolding readHeader
+by-places s e = ap (λ (a : Answer (List ℕ)). then a (λ l. gives (valuesAt (take 256 s) l))) e
+
+module _ (s : List ℕ) (r : Places) (finds : Finds (tagPlaces s) r) where
+  module _ (is : r .outcome ≡ Accepted) where
+    pub given : tagPlaces s ≡ gives (r .places)
+    given = sym (finds .outcome) ∙ ap (λ (o : HeaderOutcome). answerOf o (r .places)) is
+
+    -- the tags are in order
+    pub taken-in : {v : Header} → v ≡ valuesAt (take 256 s) (r .places) → Reads s (record { outcome = Accepted; header = v })
+    taken-in {v} e =
+        let f : readHeader s ≡ gives v = by-places s given ∙ ap gives (sym e) in
+        record { outcome = sym f; values = sym (ap valuesOf f) }
+
+  -- the header is refused
+  pub turned-on : {a : HeaderAnswer} → (r .outcome ≡ Accepted → ⊥) → (a .outcome ≡ r .outcome) × (a .header ≡ blank) → Reads s a
+  turned-on {a} not w =
+      let h = refusing (r .outcome) not in
+      let f = by-places s (sym (finds .outcome) ∙ h .is (r .places)) in
+      record {
+        outcome = ap (λ (o : HeaderOutcome). answerOf o (a .header)) (w .0) ∙ h .is (a .header) ∙ sym f;
+        values = w .1 ∙ sym (ap valuesOf f);
+      }

@@ -40,14 +40,19 @@ valuesAt h places =
       hint = cond hintless (replicate 32 0) (value h places 5);
     }
 
--- The reader's refusals in their order; of 3 only a size of 0 is told here. The header is the first 256 bytes.
-unfoldable pub readHeader : List ℕ → Answer Header
-readHeader s =
+-- The reader's refusals in their order; of 3 only a size of 0 is told here. The header is the first 256 bytes. What is given are the
+-- places of its tags, by the rows of the table.
+unfoldable pub tagPlaces : List ℕ → Answer (List ℕ)
+tagPlaces s =
     let h = take 256 s in
     cond (ltb (length s) 256) (refused 16 0)
     (cond (not (eqb (number (part h 0 4)) (number magic))) (refused 2 0)
     (cond (eqb (number (part h 4 4)) 0) (refused 3 4)
-    (then (placesIn documentTable h) (λ places. gives (valuesAt h places)))))
+    (placesIn documentTable h)))
+
+-- The reader: the values at these places.
+unfoldable pub readHeader : List ℕ → Answer Header
+readHeader s = then (tagPlaces s) (λ places. gives (valuesAt (take 256 s) places))
 
 -- The values beside a refusal: blank, so that none comes from an earlier image.
 abbrev pub blank : Header

@@ -1,5 +1,6 @@
 // The reader of a rustBoot header: the values of its tags.
 use places::HeaderOutcome;
+use places::Places;
 use places::ROWS;
 ghost use mathlib.Core.Path.{_≡_};
 ghost use Prim.Native.Nat.{_+_, _*_, _≤_};
@@ -8,8 +9,8 @@ ghost use lib.ListN.{length, replicate};
 ghost use lib.Dec.{eqb};
 ghost use Rattle.tags.specs.Bytes.{number};
 ghost use Rattle.places.specs.Table.{documentTable};
-ghost use Rattle.places.specs.Judging.{Within};
-ghost use Rattle.header.specs.Reading.{part, valuesAt, blank, Reads};
+ghost use Rattle.places.specs.Judging.{Within, Finds};
+ghost use Rattle.header.specs.Reading.{part, tagPlaces, valuesAt, blank, Reads};
 
 // What a header carries.
 pub struct Header {
@@ -101,14 +102,14 @@ fn read_u16(h: &[u8], at: usize) -> u16
     two_bytes(h[at], h[at + 1])
 }
 
-fn read_u32(h: &[u8], at: usize) -> u32
+pub fn read_u32(h: &[u8], at: usize) -> u32
     requires { ⌜ at + 4 ≤ length (now h) ⌝ }
     ensures { λ r. ⌜ r ≡ number (part (now (h .entry)) at 4) ⌝ }
 {
     four_bytes(h[at], h[at + 1], h[at + 2], h[at + 3])
 }
 
-fn read_u64(h: &[u8], at: usize) -> u64
+pub fn read_u64(h: &[u8], at: usize) -> u64
     requires { ⌜ at + 8 ≤ length (now h) ⌝ }
     ensures { λ r. ⌜ r ≡ number (part (now (h .entry)) at 8) ⌝ }
 {
@@ -180,29 +181,36 @@ fn refuse(o: HeaderOutcome) -> HeaderAnswer
     }
 }
 
-// Reads the header in the first 256 bytes of a lent buffer.
-pub fn read_header(s: &[u8]) -> HeaderAnswer
-    ensures { λ r. ⌜ Reads (now (s .entry)) r ⌝ }
+// Where the tags of the header in the first 256 bytes of a lent buffer stand. Nothing is copied.
+pub fn locate(s: &[u8]) -> Places
+    ensures { λ r. ⌜ Finds (tagPlaces (now (s .entry))) r ⌝ }
 {
     if s.len() < tags::HEADER_LENGTH {
-        return refuse(HeaderOutcome::TooShort);
+        return places::refuse(HeaderOutcome::TooShort);
     }
     let h = &s[..tags::HEADER_LENGTH];
     let magic = read_u32(h, 0);
     if magic != Header::MAGIC {
-        return refuse(HeaderOutcome::WrongMagic);
+        return places::refuse(HeaderOutcome::WrongMagic);
     }
     let size = read_u32(h, 4);
     if size == 0 {
-        return refuse(HeaderOutcome::WrongSize);
+        return places::refuse(HeaderOutcome::WrongSize);
     }
     let types = TYPES;
     let lengths = LENGTHS;
-    let found = places::find_places(h, &types, &lengths, REQUIRED);
+    places::find_places(h, &types, &lengths, REQUIRED)
+}
+
+// Reads the header in the first 256 bytes of a lent buffer.
+pub fn read_header(s: &[u8]) -> HeaderAnswer
+    ensures { λ r. ⌜ Reads (now (s .entry)) r ⌝ }
+{
+    let found = locate(s);
     let outcome = found.outcome;
     let places = found.places;
     if let HeaderOutcome::Accepted = outcome {
-        let header = read_values(h, places);
+        let header = read_values(&s[..tags::HEADER_LENGTH], places);
         return HeaderAnswer {
             outcome: HeaderOutcome::Accepted,
             header,

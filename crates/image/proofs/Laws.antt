@@ -1,29 +1,21 @@
 -- What the image check answers, by the tests on the way. Assumes nothing.
 use mathlib.Core.Path.{_≡_, refl, sym, ap, ap₂, _∙_}
-use Prim.Native.Nat.{ℕ, _+_, _-_, _≤_, _<_}
-use mathlib.Core.Bool.{Bool, true, false, cond, _&&_}
+use Prim.Native.Nat.{ℕ}
+use mathlib.Core.Bool.{Bool, true, false, _&&_}
 use mathlib.Core.List.{List, [], _∷_}
 use native.Mathlib.Omega.{arith}
-use lib.Dec.{ltb, eqb}
-use lib.ListN.{length, take, drop}
-use borrow.Author.Tests.{lt-ltb, le-ltb, eq-eqb, eqb-true}
+use lib.Dec.{eqb}
+use borrow.Author.Tests.{eq-eqb, eqb-true}
 use Rattle.refusals.specs.Answer.{Answer, gives, refused, then}
-use Rattle.fips180.specs.Sha256.{sha256}
-use Rattle.places.specs.declared.HeaderOutcome.{HeaderOutcome}
-use Rattle.places.specs.declared.HeaderOutcome.the-variants.{Accepted, WrongSize}
-use Rattle.places.specs.Judging as header
-use Rattle.places.proofs.Refusals.{refusing}
 use Rattle.header.specs.declared.Header.{Header}
-use Rattle.header.specs.declared.HeaderAnswer.{HeaderAnswer}
-use Rattle.header.specs.Reading.{readHeader, blank, valuesOf, Reads}
-use Rattle.header.proofs.Answers.{accepted-room}
+use Rattle.header.specs.Reading.{blank, valuesOf}
 use Rattle.flash.specs.declared.Geometry.{Geometry}
 use Rattle.flash.specs.Sectors.{firmwareOf}
 use Rattle.flash.specs.Buffers.{partitionOf}
 use Rattle.image.specs.declared.ImageOutcome.{ImageOutcome}
-use Rattle.image.specs.declared.ImageOutcome.the-variants.{Good, OutsideRules, BadHeader, WrongDigest}
+use Rattle.image.specs.declared.ImageOutcome.the-variants.{OutsideRules}
 use Rattle.image.specs.declared.ImageAnswer.{ImageAnswer}
-use Rattle.image.specs.Check.{badHeader, answerOf, same, covered, judged, imageIn, checkImage, Checks}
+use Rattle.image.specs.Check.{answerOf, same, imageIn, checkImage, Checks}
 
 -- ---- the same bytes
 
@@ -54,9 +46,8 @@ same-is a b false f g = go (same a b) refl
     go true e = g (same-true a b e)
     go false e = refl
 
--- ---- the answers
+-- ---- a refusal, with a blank header
 
--- a refusal, with a blank header
 pub turned : {a : Answer Header} {r : ImageAnswer} {o : ImageOutcome} {n p : ℕ} → (r .outcome ≡ o) × (r .header ≡ blank)
     → answerOf o (r .header) ≡ refused n p → a ≡ refused n p → Checks a r
 turned {r = r} w x y =
@@ -64,45 +55,6 @@ turned {r = r} w x y =
       outcome = ap (λ (z : ImageOutcome). answerOf z (r .header)) (w .0) ∙ x ∙ sym y;
       values = w .1 ∙ sym (ap valuesOf y);
     }
-
-module _ (b : List ℕ) (h : HeaderAnswer) (reads : Reads b h) where
-  -- the header is refused
-  pub bad-header : {r : ImageAnswer} → (h .outcome ≡ Accepted → ⊥) → (r .outcome ≡ BadHeader (h .outcome)) × (r .header ≡ blank)
-      → Checks (imageIn b) r
-  unfolding imageIn
-  bad-header {r} not w =
-      let q = refusing (h .outcome) not in
-      turned w (ap badHeader (q .is tt)) (ap (λ (a : Answer Header). then a (judged b)) (sym (reads .outcome) ∙ q .is (h .header)))
-
-  module _ (is : h .outcome ≡ Accepted) where
-    read : readHeader b ≡ gives (h .header)
-    read = sym (reads .outcome) ∙ ap (λ (o : HeaderOutcome). header.answerOf o (h .header)) is
-
-    pub room : 256 ≤ length b
-    room = accepted-room b (h .header) read
-
-    image : imageIn b ≡ judged b (h .header)
-    unfolding imageIn
-    image = ap (λ (a : Answer Header). then a (judged b)) read
-
-    pub too-large : {r : ImageAnswer} → length b - 256 < h .header .size → (r .outcome ≡ BadHeader WrongSize) × (r .header ≡ blank) → Checks (imageIn b) r
-    too-large lt w = turned w refl (image ∙ simp (lt-ltb _ _ lt))
-
-    module _ (fits : h .header .size ≤ length b - 256) {c : List ℕ} (part : c ≡ covered b (h .header)) where
-      pub wrong-digest : {r : ImageAnswer} {t : Bool} → t ≡ same (sha256 c) (h .header .digest) → t ≡ false
-          → (r .outcome ≡ WrongDigest) × (r .header ≡ blank) → Checks (imageIn b) r
-      wrong-digest is no′ w =
-          let e : same (sha256 (covered b (h .header))) (h .header .digest) ≡ false =
-          ap (λ (x : List ℕ). same (sha256 x) (h .header .digest)) (sym part) ∙ sym is ∙ no′ in
-          turned w refl (image ∙ simp (le-ltb _ _ fits, e))
-
-      pub good : {t : Bool} → t ≡ same (sha256 c) (h .header .digest) → t ≡ true
-          → Checks (imageIn b) (record { outcome = Good; header = h .header })
-      good is yes′ =
-          let e : same (sha256 (covered b (h .header))) (h .header .digest) ≡ true =
-          ap (λ (x : List ℕ). same (sha256 x) (h .header .digest)) (sym part) ∙ sym is ∙ yes′ in
-          let g : imageIn b ≡ gives (h .header) = image ∙ simp (le-ltb _ _ fits, e) in
-          record { outcome = sym g; values = sym (ap valuesOf g) }
 
 -- ---- a partition
 
@@ -127,7 +79,3 @@ firmware-decides n s l l′ g e e′ same =
     ap (λ (a : Answer Geometry). then a (λ g. imageIn (firmwareOf g l))) e
     ∙ ap imageIn same
     ∙ sym (ap (λ (a : Answer Geometry). then a (λ g. imageIn (firmwareOf g l′))) e′)
-
--- the part that is lent is what the digest covers
-pub firmware-part : (b : List ℕ) (n : ℕ) → take (256 + n - 256) (drop 256 b) ≡ take n (drop 256 b)
-firmware-part b n = let e : 256 + n - 256 ≡ n = omega arith in ap (λ (k : ℕ). take k (drop 256 b)) e

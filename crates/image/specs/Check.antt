@@ -9,7 +9,7 @@ use Rattle.refusals.specs.Answer.{Answer, gives, refused, then}
 use Rattle.fips180.specs.Sha256.{sha256}
 use Rattle.places.specs.Judging as header
 use Rattle.header.specs.declared.Header.{Header}
-use Rattle.header.specs.Reading.{readHeader, valuesOf}
+use Rattle.header.specs.Reading.{tagPlaces, valuesAt, valuesOf}
 use Rattle.flash.specs.declared.Geometry.{Geometry}
 use Rattle.flash.specs.Sectors.{firmwareOf}
 use Rattle.flash.specs.Buffers.{partitionOf}
@@ -36,18 +36,24 @@ same [] (y ∷ ys) = false
 same (x ∷ xs) [] = false
 same (x ∷ xs) (y ∷ ys) = eqb x y && same xs ys
 
--- What the digest covers: of the bytes b from a header on, the firmware alone, behind the header and as long as the header says.
-abbrev pub covered : List ℕ → Header → List ℕ
-covered b v = take (v .size) (drop 256 b)
+-- The values of the header at the front of the bytes b, whose tags stand at these places.
+abbrev pub valuesIn : List ℕ → List ℕ → Header
+valuesIn b places = valuesAt (take 256 b) places
 
--- The values v were read from the header of b. A firmware that the bytes behind the header cannot hold is 3, another digest is 9.
-abbrev pub judged : List ℕ → Header → Answer Header
-judged b v =
-    cond (ltb (length b - 256) (v .size)) (refused 3 4) (cond (same (sha256 (covered b v)) (v .digest)) (gives v) (refused 9 256))
+-- What the digest covers: of the bytes b from a header on, whose tags stand at these places, the firmware alone, behind the header and
+-- as long as the header says.
+abbrev pub covered : List ℕ → List ℕ → List ℕ
+covered b places = take (valuesIn b places .size) (drop 256 b)
 
--- The check of the image in the bytes b of the firmware sectors: the whole reader first.
+-- The header of b has its tags at these places. A firmware that the bytes behind the header cannot hold is 3, another digest is 9.
+abbrev pub judged : List ℕ → List ℕ → Answer Header
+judged b places =
+    let v = valuesIn b places in
+    cond (ltb (length b - 256) (v .size)) (refused 3 4) (cond (same (sha256 (covered b places)) (v .digest)) (gives v) (refused 9 256))
+
+-- The check of the image in the bytes b of the firmware sectors: all of the reader's refusals first.
 unfoldable pub imageIn : List ℕ → Answer Header
-imageIn b = then (readHeader b) (judged b)
+imageIn b = then (tagPlaces b) (judged b)
 
 -- The check of a partition: 1 first; then the image in its firmware sectors, so that the trailer sector has no say.
 unfoldable pub checkImage : ℕ → ℕ → List ℕ → Answer Header

@@ -1,2 +1,3 @@
 -- The check of a firmware image.
 pub mod Check
+pub mod Verdict

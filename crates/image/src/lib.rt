@@ -1,11 +1,19 @@
 // The check of a firmware image: its header, its size and its digest.
+use flash::Geometry;
 use flash::GeometryAnswer;
 use header::Header;
 use places::HeaderOutcome;
+use places::ROWS;
 ghost use mathlib.Core.Path.{_≡_};
+ghost use Prim.Native.Nat.{_≤_};
+ghost use lib.ListN.{length};
 ghost use Rattle.fips180.specs.Sha256.{sha256};
-ghost use Rattle.header.specs.Reading.{blank};
-ghost use Rattle.image.specs.Check.{same, imageIn, checkImage, Checks};
+ghost use Rattle.flash.specs.Sectors.{Partition, firmwareOf};
+ghost use Rattle.places.specs.Table.{documentTable};
+ghost use Rattle.places.specs.Judging.{Within};
+ghost use Rattle.header.specs.Reading.{valuesAt, blank};
+ghost use Rattle.image.specs.Check.{same, judged, imageIn, checkImage, Checks};
+ghost use Rattle.image.specs.Verdict.{releaseOf, Judges};
 
 // What an image is: good, or refused.
 pub enum ImageOutcome {
@@ -23,6 +31,87 @@ pub struct ImageAnswer {
     pub header: Header,
 }
 
+// What a power-up and its kin need of a good image.
+pub struct Release {
+    pub version: u32,
+    // The firmware's size in bytes.
+    pub size: u32,
+    // Unix seconds.
+    pub timestamp: u64,
+}
+
+// What the image check finds: a good image, or what is wrong.
+pub enum ImageVerdict {
+    Good(Release),
+    Bad(ImageOutcome),
+}
+
+// ---- the check, where the image lies
+
+// The firmware has the digest that its header states.
+fn has_digest(firmware: &[u8], stated: &[u8]) -> bool
+    ensures { λ r. ⌜ r ≡ same (sha256 (now (firmware .entry))) (now (stated .entry)) ⌝ }
+{
+    let digest = sha256::digest(firmware);
+    check::same(&digest, stated)
+}
+
+// The release of a header whose tags stand at these places.
+fn read_release(h: &[u8], places: [usize; ROWS]) -> Release
+    requires { ⌜ Within documentTable places (length (now h)) ⌝ }
+    ensures { λ r. ⌜ r ≡ releaseOf (valuesAt (now (h .entry)) places) ⌝ }
+{
+    let version = places[0];
+    let timestamp = places[1];
+    Release {
+        version: header::read_u32(h, version + 4),
+        size: header::read_u32(h, 4),
+        timestamp: header::read_u64(h, timestamp + 4),
+    }
+}
+
+// The image whose header has its tags at these places. The firmware is digested where it lies, and the digest that is stated is
+// compared where it stands.
+fn judge_at(b: &[u8], places: [usize; ROWS]) -> ImageVerdict
+    requires { ⌜ (256 ≤ length (now b)) × Within documentTable places 256 ⌝ }
+    ensures { λ r. ⌜ Judges (judged (now (b .entry)) places) r ⌝ }
+{
+    let h = &b[..tags::HEADER_LENGTH];
+    let size = header::read_u32(h, 4) as usize;
+    if b.len() - tags::HEADER_LENGTH < size {
+        return ImageVerdict::Bad(ImageOutcome::BadHeader(HeaderOutcome::WrongSize));
+    }
+    let end = tags::HEADER_LENGTH + size;
+    let at = places[2];
+    if has_digest(&b[tags::HEADER_LENGTH..end], &h[at + 4..at + 36]) {
+        return ImageVerdict::Good(read_release(h, places));
+    }
+    ImageVerdict::Bad(ImageOutcome::WrongDigest)
+}
+
+// The image in the bytes of the firmware sectors.
+pub fn judge(b: &[u8]) -> ImageVerdict
+    ensures { λ r. ⌜ Judges (imageIn (now (b .entry))) r ⌝ }
+{
+    let found = header::locate(b);
+    let outcome = found.outcome;
+    let places = found.places;
+    if let HeaderOutcome::Accepted = outcome {
+        return judge_at(b, places);
+    }
+    ImageVerdict::Bad(ImageOutcome::BadHeader(outcome))
+}
+
+// The image of a partition.
+pub fn judge_partition(g: Geometry, partition: &[u8]) -> ImageVerdict
+    requires { ⌜ Partition g (now partition) ⌝ }
+    ensures { λ r. ⌜ Judges (imageIn (firmwareOf g (now (partition .entry)))) r ⌝ }
+{
+    judge(sectors::firmware_part(g, partition))
+}
+
+// ---- the check that hands back the header's values
+
 // An outcome beside a blank header.
 fn refuse(o: ImageOutcome) -> ImageAnswer
     ensures { λ a. ⌜ (a .outcome ≡ o) × (a .header ≡ blank) ⌝ }
@@ -33,37 +122,21 @@ fn refuse(o: ImageOutcome) -> ImageAnswer
     }
 }
 
-// The firmware has the digest that its header states.
-fn has_digest(firmware: &[u8], stated: [u8; 32]) -> bool
-    ensures { λ r. ⌜ r ≡ same (sha256 (now (firmware .entry))) stated ⌝ }
-{
-    let digest = sha256::digest(firmware);
-    check::same(&digest, &stated)
-}
-
-// The image in the bytes of the firmware sectors. The firmware is digested where it lies.
+// The image in the bytes of the firmware sectors: its header is read where the image is good.
 pub fn check_firmware(b: &[u8]) -> ImageAnswer
     ensures { λ r. ⌜ Checks (imageIn (now (b .entry))) r ⌝ }
 {
-    let read = header::read_header(b);
-    let outcome = read.outcome;
-    let h = read.header;
-    if let HeaderOutcome::Accepted = outcome {
-        let size = h.size as usize;
-        if b.len() - tags::HEADER_LENGTH < size {
-            return refuse(ImageOutcome::BadHeader(HeaderOutcome::WrongSize));
-        }
-        let stated = h.digest;
-        let end = tags::HEADER_LENGTH + size;
-        if has_digest(&b[tags::HEADER_LENGTH..end], stated) {
-            return ImageAnswer {
+    match judge(b) {
+        ImageVerdict::Good(_) => {
+            let read = header::read_header(b);
+            let header = read.header;
+            ImageAnswer {
                 outcome: ImageOutcome::Good,
-                header: h,
-            };
+                header,
+            }
         }
-        return refuse(ImageOutcome::WrongDigest);
+        ImageVerdict::Bad(o) => refuse(o),
     }
-    refuse(ImageOutcome::BadHeader(outcome))
 }
 
 // The image of a partition of `sectors` sectors of `size` bytes: any numbers and any length are taken.

@@ -10,8 +10,8 @@ use lib.Seq.{take-take, take-all, length-take-le}
 use borrow.Author.Tests.{ltb-true, ltb-false, le-ltb}
 use Rattle.tags.specs.Walk.{itemAt, itemFrom, tagsFrom}
 use Rattle.places.specs.Judging.{judge, rowOf, placesIn}
-use Rattle.header.specs.Reading.{readHeader}
-use Rattle.header.proofs.Answers.{short}
+use Rattle.header.specs.Reading.{tagPlaces, readHeader}
+use Rattle.header.proofs.Answers.{short, by-places}
 use Rattle.lines.specs.Lines.{placesWithin, decimal, fields, refusal}
 use Rattle.listing.specs.Listing.{listing}
 use Rattle.listing.specs.Examples.{ListsExample, MissingVersion, ListsBytes, TooShort, FirstBytesOnly}
@@ -25,16 +25,16 @@ unfolding placesWithin decimal refusal
 missing-version = refl
 
 pub lists-bytes : ListsBytes
-unfolding readHeader placesIn judge rowOf tagsFrom itemFrom itemAt placesWithin decimal fields refusal
+unfolding readHeader tagPlaces placesIn judge rowOf tagsFrom itemFrom itemAt placesWithin decimal fields refusal
 lists-bytes = (refl, refl)
 
 pub too-short : TooShort
 unfolding placesWithin decimal refusal
-too-short s h = ap listing (short s h)
+too-short s h = ap listing (by-places s (short s h))
 
 -- a buffer and its first 256 bytes read alike
 alike : (s : List ℕ) (b : Bool) → ltb (length s) 256 ≡ b → readHeader (take 256 s) ≡ readHeader s
-unfolding readHeader
+unfolding readHeader tagPlaces
 alike s true e = ap readHeader (take-all 256 s (omega (arith, ltb-true (length s) 256 e)))
 alike s false e =
     let room : 256 ≤ length s = ltb-false (length s) 256 e in

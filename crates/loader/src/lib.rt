@@ -2,11 +2,11 @@
 use decision::Plan;
 use decision::Reason;
 use decision::Refusal;
-use decision::Verdict;
 use exchange::Job;
 use exchange::Next;
 use flash::Geometry;
 use flash::GeometryAnswer;
+use image::ImageVerdict;
 ghost use mathlib.Core.Path.{_≡_};
 ghost use Rattle.flash.specs.Sizes.{geometry};
 ghost use Rattle.flash.specs.Sectors.{Partition};
@@ -15,7 +15,8 @@ ghost use Rattle.status.specs.StatusBytes.{bootStatusAt, updateStatusAt};
 ghost use Rattle.trailer.specs.SectorFlags.{flagsAt};
 ghost use Rattle.exchange.specs.Order.{orderedBy, run};
 ghost use Rattle.exchange.specs.PowerUp.{ifBootGood, doneOutcome, outcomeBy, worked, carryOut, powerUp};
-ghost use Rattle.decision.specs.Numbers.{checkOf, reasonOf};
+ghost use Rattle.image.specs.Verdict.{checkOf};
+ghost use Rattle.decision.specs.Numbers.{reasonOf};
 ghost use Rattle.decision.specs.Parts.{planOf};
 ghost use Rattle.loader.specs.Loader.{outcomeOf, answered};
 ghost use Rattle.loader.specs.Parts.{idleAnswer};
@@ -52,9 +53,9 @@ fn if_boot_good(g: Geometry, outcome: Outcome, boot: &[u8]) -> Outcome
     requires { ⌜ Partition g (now boot) ⌝ }
     ensures { λ r. ⌜ outcomeOf r ≡ ifBootGood (outcomeOf outcome) (checkOf g (now (boot .entry))) ⌝ }
 {
-    match decision::check_image(g, boot) {
-        Verdict::Good(_) => outcome,
-        Verdict::Bad(o) => Outcome::Refused(Refusal::BadBoot(o)),
+    match image::judge_partition(g, boot) {
+        ImageVerdict::Good(_) => outcome,
+        ImageVerdict::Bad(o) => Outcome::Refused(Refusal::BadBoot(o)),
     }
 }
 

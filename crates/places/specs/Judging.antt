@@ -1,4 +1,5 @@
 -- Document 01, "The header": the tags in their order, judged by the table.
+use mathlib.Core.Path.{_≡_}
 use Prim.Native.Nat.{ℕ, suc, _+_, _≤_, _<_}
 use mathlib.Core.List.{List, [], _∷_}
 use mathlib.Core.Bool.{true, false, cond}
@@ -8,6 +9,7 @@ use Rattle.refusals.specs.Answer.{Answer, gives, refused}
 use Rattle.tags.specs.Walk.{firstTag, Tags, ended, broken, more, tagsAt}
 use Rattle.places.specs.Table.{TagTable}
 use Rattle.places.specs.declared.HeaderOutcome.{HeaderOutcome}
+use Rattle.places.specs.declared.Places.{Places}
 use Rattle.places.specs.declared.HeaderOutcome.the-variants.{Accepted, TooShort, WrongMagic, WrongSize, TagDoesNotFit, WrongLength, Repeated, NoEnd, Missing}
 
 -- The paper's number and place for each case of the code's outcome, "Numbers given back", rows 2 to 8 and 16.
@@ -50,6 +52,20 @@ judge T seen (more q t n rest) =
 -- The places of a header's tags by a table.
 unfoldable pub placesIn : TagTable → List ℕ → Answer (List ℕ)
 placesIn T h = judge T (replicate (length (T .types)) 0) (tagsAt h firstTag)
+
+-- The places beside a refusal: blank, so that none comes from an earlier header.
+abbrev pub blank : List ℕ
+blank = replicate 6 0
+
+-- The places that an answer tells: blank where it refuses.
+abbrev pub placesOf : Answer (List ℕ) → List ℕ
+placesOf (gives l) = l
+placesOf (refused n p) = blank
+
+-- What a search for tags promises: its outcome and its places, both decided by the answer that the rules give.
+pub record Finds (answer : Answer (List ℕ)) (r : Places) : Type 0 where
+  pub outcome : answerOf (r .outcome) (r .places) ≡ answer
+  pub places : r .places ≡ placesOf answer
 
 -- A value of each row's length fits, behind type and length, at each row's place of a header of n bytes.
 pub record Within (T : TagTable) (places : List ℕ) (n : ℕ) : Type 0 where

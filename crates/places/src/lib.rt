@@ -4,7 +4,7 @@ ghost use mathlib.Core.Path.{_≡_};
 ghost use Prim.Native.Nat.{_≤_};
 ghost use lib.ListN.{length};
 ghost use Rattle.places.specs.Table.{table};
-ghost use Rattle.places.specs.Judging.{answerOf, rowOf, placesIn};
+ghost use Rattle.places.specs.Judging.{rowOf, placesIn, blank, Finds};
 
 // How many rows the table of tags has.
 pub const ROWS: usize = 6;
@@ -24,7 +24,7 @@ pub enum HeaderOutcome {
     Missing(usize),
 }
 
-// The places of the table's tags, 0 where a tag was not seen, and the outcome.
+// The places of the table's tags, 0 where a tag was not seen, and the outcome. The places of a refusal are blank: all 0.
 pub struct Places {
     pub outcome: HeaderOutcome,
     pub places: [usize; ROWS],
@@ -44,10 +44,20 @@ fn row_of(row: &[usize], x: usize) -> usize
     i
 }
 
+// An outcome beside blank places.
+pub fn refuse(o: HeaderOutcome) -> Places
+    ensures { λ r. ⌜ (r .outcome ≡ o) × (r .places ≡ blank) ⌝ }
+{
+    Places {
+        outcome: o,
+        places: [0usize; ROWS],
+    }
+}
+
 // The places of a header's tags by a table.
 pub fn find_places(h: &[u8], types: &[usize], lengths: &[usize], required: usize) -> Places
     requires { ⌜ (length (now types) ≡ 6) × (length (now lengths) ≡ 6) × (required ≤ 6) ⌝ }
-    ensures { λ r. ⌜ answerOf (r .outcome) (r .places) ≡ placesIn (table (now (types .entry)) (now (lengths .entry)) required) (now (h .entry)) ⌝ }
+    ensures { λ r. ⌜ Finds (placesIn (table (now (types .entry)) (now (lengths .entry)) required) (now (h .entry))) r ⌝ }
 {
     let mut places = [0usize; ROWS];
     let mut at = tags::FIRST_TAG;
@@ -62,16 +72,10 @@ pub fn find_places(h: &[u8], types: &[usize], lengths: &[usize], required: usize
                 let row = row_of(types, kind);
                 if row < types.len() {
                     if length != lengths[row] {
-                        return Places {
-                            outcome: HeaderOutcome::WrongLength(place),
-                            places,
-                        };
+                        return refuse(HeaderOutcome::WrongLength(place));
                     }
                     if places[row] != 0 {
-                        return Places {
-                            outcome: HeaderOutcome::Repeated(place),
-                            places,
-                        };
+                        return refuse(HeaderOutcome::Repeated(place));
                     }
                     places[row] = place;
                 }
@@ -80,10 +84,7 @@ pub fn find_places(h: &[u8], types: &[usize], lengths: &[usize], required: usize
             Tag::End => {
                 let first = row_of(&places[..required], 0);
                 if first < required {
-                    return Places {
-                        outcome: HeaderOutcome::Missing(types[first]),
-                        places,
-                    };
+                    return refuse(HeaderOutcome::Missing(types[first]));
                 }
                 return Places {
                     outcome: HeaderOutcome::Accepted,
@@ -91,22 +92,13 @@ pub fn find_places(h: &[u8], types: &[usize], lengths: &[usize], required: usize
                 };
             }
             Tag::TooShort => {
-                return Places {
-                    outcome: HeaderOutcome::TooShort,
-                    places,
-                };
+                return refuse(HeaderOutcome::TooShort);
             }
             Tag::DoesNotFit(p) => {
-                return Places {
-                    outcome: HeaderOutcome::TagDoesNotFit(p),
-                    places,
-                };
+                return refuse(HeaderOutcome::TagDoesNotFit(p));
             }
             Tag::NoEnd(p) => {
-                return Places {
-                    outcome: HeaderOutcome::NoEnd(p),
-                    places,
-                };
+                return refuse(HeaderOutcome::NoEnd(p));
             }
         }
     }

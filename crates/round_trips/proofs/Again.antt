@@ -1,14 +1,13 @@
 -- What was read can be written, and reads back. Assumes nothing.
-use mathlib.Core.Path.{_≡_, refl, sym, ap, subst, _∙_}
+use mathlib.Core.Path.{_≡_, refl, sym, ap, _∙_}
 use Prim.Native.Nat.{ℕ, _+_, _≤_, _<_}
 use mathlib.Core.List.{List, _++_}
 use mathlib.Core.Bool.{Bool, true, false, cond, not}
 use native.Mathlib.Omega.{arith}
 use native.Mathlib.Decide.{decLt}
-use lib.ListN.{length, getD, take, drop, replicate, length-take, List·getD-eq-default}
+use lib.ListN.{length, getD, take, replicate, length-take, List·getD-eq-default}
 use lib.Seq.{length-take-le, getD-take}
-use lib.Dec.{ltb, eqb, lit<}
-use borrow.Author.Tests.{ltb-false, eqb-false}
+use lib.Dec.{eqb, lit<}
 use Rattle.refusals.specs.Answer.{Answer, gives, refused, then}
 use Rattle.tags.specs.Bytes.{number}
 use Rattle.tags.proofs.Laws.{refused-gives}
@@ -16,8 +15,9 @@ use Rattle.places.specs.Table.{documentTable}
 use Rattle.places.specs.Judging.{placesIn}
 use Rattle.places.proofs.Fitting.{found-within}
 use Rattle.header.specs.declared.Header.{Header}
-use Rattle.header.specs.Reading.{magic, part, valuesAt, readHeader}
+use Rattle.header.specs.Reading.{part, tagPlaces, valuesAt, readHeader}
 use Rattle.header.proofs.Parts.{length-part}
+use Rattle.header.proofs.Answers.{located}
 use Rattle.header_writer.specs.Writing.{headerBytes}
 use Rattle.round_trips.specs.RoundTrips.{Holdable, carriedHint, carried, ReadWriteRead}
 use Rattle.round_trips.proofs.Numbers.{part-below}
@@ -33,21 +33,14 @@ record Came (s : List ℕ) (v : Header) : Type 0 where
 
 came : (s : List ℕ) (v : Header) → readHeader s ≡ gives v → Came s v
 unfolding readHeader
-came s v e =
-    go (ltb (length s) 256) (eqb (number (part (take 256 s) 0 4)) (number magic)) (eqb (number (part (take 256 s) 4 4)) 0)
-    (placesIn documentTable (take 256 s)) refl refl refl e
+came s v e = go (tagPlaces s) refl e
   where
-    go : (b₁ b₂ b₃ : Bool) (o : Answer (List ℕ)) → ltb (length s) 256 ≡ b₁ → eqb (number (part (take 256 s) 4 4)) 0 ≡ b₃
-        → placesIn documentTable (take 256 s) ≡ o
-        → cond b₁ (refused 16 0) (cond (not b₂) (refused 2 0) (cond b₃ (refused 3 4) (then o (λ x. gives (valuesAt (take 256 s) x))))) ≡ gives v
-        → Came s v
-    go true b₂ b₃ o x y w e = refused-gives e
-    go false false b₃ o x y w e = refused-gives e
-    go false true true o x y w e = refused-gives e
-    go false true false (gives l) x y w e =
+    go : (a : Answer (List ℕ)) → tagPlaces s ≡ a → then a (λ l. gives (valuesAt (take 256 s) l)) ≡ gives v → Came s v
+    go (gives l) f e =
+        let w = located s l f in
         let i : valuesAt (take 256 s) l ≡ v = cc in
-        record { l = l; room = ltb-false _ _ x; some = eqb-false _ _ y; found = w; is = sym i }
-    go false true false (refused n p) x y w e = refused-gives e
+        record { l = l; room = w .room; some = w .some; found = w .found; is = sym i }
+    go (refused n p) f e = refused-gives e
 
 hint-length : (h : List ℕ) (p : ℕ) (b : Bool) → p + 4 + 32 ≤ length h → length (cond b (replicate 32 0) (part h (p + 4) 32)) ≡ 32
 hint-length h p true fits = refl

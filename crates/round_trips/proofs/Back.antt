@@ -15,7 +15,7 @@ use Rattle.places.specs.Table.{documentTable}
 use Rattle.places.specs.Judging.{judge, rowOf, placesIn}
 use Rattle.header.specs.declared.Header.{Header}
 use Rattle.header.specs.Reading.{magic, part, value, valuesAt, readHeader}
-use Rattle.header.proofs.Answers.{by-tags}
+use Rattle.header.proofs.Answers.{by-tags, by-places}
 use Rattle.header_writer.specs.Writing.{front, requiredFields, hintFields, ending, headerBytes}
 use Rattle.header_writer.proofs.Putting.{length-required, length-hint, length-header}
 use Rattle.round_trips.specs.RoundTrips.{Holdable, carriedHint, carried, WriteThenRead, WritesHeaderLength}
@@ -164,7 +164,7 @@ write-then-read v rest f =
     let w : List ℕ = headerBytes v in
     let same : take 256 (w ++ rest) ≡ w = take-at w rest 256 (header-length v f) in
     let room : 256 ≤ length (w ++ rest) = omega (arith, length-append w rest, header-length v f) in
-    by-tags (w ++ rest) room (rw same (magic-written v f)) refl (rw same (size-written v f)) (f .some)
+    by-places (w ++ rest) (by-tags (w ++ rest) room (rw same (magic-written v f)) refl (rw same (size-written v f)) (f .some))
     ∙ ap (λ (l : List ℕ). then (placesIn documentTable l) (λ x. gives (valuesAt l x))) same
     ∙ ap (λ (a : Answer (List ℕ)). then a (λ x. gives (valuesAt w x))) (places-written v f)
     ∙ ap (λ (l : List ℕ). gives (valuesAt l (written (v .«has_hint»)))) (header-laid v f)

@@ -14,7 +14,7 @@ use Rattle.places.specs.Table.{documentTable}
 use Rattle.places.specs.Judging.{judge, rowOf, placesIn}
 use Rattle.header.specs.declared.Header.{Header}
 use Rattle.header.specs.Reading.{magic, part, valuesAt, readHeader}
-use Rattle.header.proofs.Answers.{by-tags}
+use Rattle.header.proofs.Answers.{by-tags, by-places}
 use Rattle.header_writer.specs.Writing.{front, requiredFields, hintFields, headerBytes}
 use Rattle.header_writer.proofs.Putting.{length-required}
 use Rattle.round_trips.specs.RoundTrips.{Holdable}
@@ -66,7 +66,7 @@ refuses : (bytes : List ℕ) (n p : ℕ) → length bytes ≡ 248
 refuses bytes n p len tags size some fits =
     let s : List ℕ = magic ++ (littleEndian 4 size ++ bytes) in
     let same : take 256 s ≡ s = take-all 256 s (omega arith) in
-    by-tags s (omega arith) {m = number magic} refl refl {z = size} (sym (number-back 4 size fits)) (omega arith)
+    by-places s (by-tags s (omega arith) {m = number magic} refl refl {z = size} (sym (number-back 4 size fits)) (omega arith))
     ∙ ap (λ (l : List ℕ). then (placesIn documentTable l) (λ x. gives (valuesAt l x))) same
     ∙ ap (λ a. then a (λ x. gives (valuesAt s x))) (tags size)
 

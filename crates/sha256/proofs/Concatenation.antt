@@ -85,10 +85,27 @@ settle-more h b p n e =
     ∙ settle-front h b p (n % 2 ^ 64 + length p)
     ∙ settle-count h (b ++ p) (n % 2 ^ 64 + length p) (n + length p) (omega arith)
 
+-- ---- the digest
+
+-- the whole blocks of a may be hashed before b comes
+pub after-front : (h a b : List ℕ) (n : ℕ)
+    → digestAfter (hash h a (length a / 64)) (drop (64 * (length a / 64)) a ++ b) n ≡ digestAfter h (a ++ b) n
+unfolding digestAfter settle
+after-front h a b n =
+    let r : List ℕ = drop (64 * (length a / 64)) a in
+    ap (λ (x : List ℕ). bytes (hash (hash h a (length a / 64)) x (length x / 64))) (append-assoc r b (padding n))
+    ∙ ap (λ (d : Hasher). bytes (d .words)) (settle-front h a (b ++ padding n) 0)
+    ∙ ap (λ (x : List ℕ). bytes (hash h x (length x / 64))) (sym (append-assoc a b (padding n)))
+
+-- the whole blocks of a message may be hashed before its end
+pub after-blocks : (h m : List ℕ) (n : ℕ) → digestAfter (hash h m (length m / 64)) (drop (64 * (length m / 64)) m) n ≡ digestAfter h m n
+unfolding digestAfter settle
+after-blocks h m n = ap (λ (d : Hasher). bytes (d .words)) (settle-front h m (padding n) 0)
+
 -- the message in one place
-pub digest-law : (m : List ℕ) → digestAfter (hash H0 m (length m / 64)) (drop (64 * (length m / 64)) m) (length m) ≡ sha256 m
-unfolding digestAfter sha256 pad settle
-digest-law m = ap (λ (d : Hasher). bytes (d .words)) (settle-front H0 m (padding (length m)) 0)
+pub digest-law : (m : List ℕ) → digestAfter H0 m (length m) ≡ sha256 m
+unfolding digestAfter sha256 pad
+digest-law m = refl
 
 -- how many bytes wait
 pub length-waiting : (d : Hasher) → length (waiting d) ≡ d .count % 64
@@ -117,7 +134,7 @@ unfolding bigEndian
 field-wrap x y e =
     cons (omega arith) (cons (omega arith) (cons (omega arith) (cons (omega arith) (cons (omega arith) (cons (omega arith) (cons (omega arith) (cons (omega arith) refl)))))))
 
-padding-wrap : (n : ℕ) → padding (n % 2 ^ 64) ≡ padding n
+pub padding-wrap : (n : ℕ) → padding (n % 2 ^ 64) ≡ padding n
 unfolding padding zeros
 padding-wrap n =
     let z : (119 - n % 2 ^ 64 % 64) % 64 ≡ (119 - n % 64) % 64 = omega arith in

@@ -2,3 +2,4 @@
 pub mod Concatenation
 mod Pending
 mod Padding
+mod Seam

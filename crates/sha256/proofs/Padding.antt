@@ -11,7 +11,7 @@ use Rattle.sha256.proofs.Concatenation.{field-wrap}
 
 -- ---- blocks
 
-one-block : (h a : List ℕ) → length a ≡ 64 → hash h a (length a / 64) ≡ compress h (words a)
+pub one-block : (h a : List ℕ) → length a ≡ 64 → hash h a (length a / 64) ≡ compress h (words a)
 unfolding hash block
 one-block h a l = rw l (ap (λ (x : List ℕ). compress h (words x)) (take-all 64 a (omega arith)))
 

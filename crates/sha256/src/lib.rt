@@ -137,11 +137,40 @@ fn digest_after(h: [u32; 8], rest: &[u8], count: u64) -> [u8; 32]
     sha256_bytes::bytes(sha256_block::compress(s, &b))
 }
 
+// The digest of a message of `count` bytes, of the hash value after its first blocks and the bytes behind them.
+fn digest_from(h: [u32; 8], rest: &[u8], count: u64) -> [u8; 32]
+    requires { ⌜ length (now rest) % 64 ≡ count % 64 ⌝ }
+    ensures { λ r. ⌜ r ≡ parts.digestAfter h (now (rest .entry)) count ⌝ }
+{
+    let n = rest.len();
+    let from = n - n % 64;
+    digest_after(sha256_block::hash(h, rest), &rest[from..], count)
+}
+
 // The digest of a message that lies in one place.
 pub fn digest(message: &[u8]) -> [u8; 32]
     ensures { λ r. ⌜ r ≡ fips.sha256 (now (message .entry)) ⌝ }
 {
-    let n = message.len();
-    let from = n - n % 64;
-    digest_after(sha256_block::hash(H0, message), &message[from..], n as u64)
+    digest_from(H0, message, message.len() as u64)
+}
+
+// The digest of a message that lies in two places, a and then b. The block where they meet is put together; the others are
+// compressed where they lie.
+pub fn digest_of_two(a: &[u8], b: &[u8]) -> [u8; 32]
+    ensures { λ r. ⌜ r ≡ fips.sha256 (now (a .entry) ++ now (b .entry)) ⌝ }
+{
+    let n = a.len();
+    let fill = n % 64;
+    let from = n - fill;
+    let k = least(64 - fill, b.len());
+    let count = std::num::wrapping_add_u64(n as u64, b.len() as u64);
+    let h = sha256_block::hash(H0, a);
+    let mut p = [0u8; 64];
+    bytes::copy(&a[from..], &mut p);
+    sha256_bytes::put_over(&mut p, fill, &b[..k]);
+    let m = fill + k;
+    if m < 64 {
+        return digest_from(h, &p[..m], count);
+    }
+    digest_from(sha256_block::compress(h, &p), &b[k..], count)
 }

@@ -16,7 +16,7 @@ drop-zeros n k h =
     ∙ drop-at (replicate k 0) (replicate (n - k) 0) k (length-replicate k 0)
 
 -- p over zeros, after o
-put-law : (o p : List ℕ) (k : ℕ) → length o ≡ k → k + length p ≤ 64
+pub put-law : (o p : List ℕ) (k : ℕ) → length o ≡ k → k + length p ≤ 64
     → paste (o ++ replicate (64 - k) 0) k p (length p) ≡ (o ++ p) ++ replicate (64 - (k + length p)) 0
 put-law o p k l h =
     let z : 64 - k - length p ≡ 64 - (k + length p) = omega arith in

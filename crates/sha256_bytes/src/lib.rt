@@ -20,6 +20,18 @@ pub fn put(t: [u8; 64], at: usize, part: &[u8]) -> [u8; 64]
     r
 }
 
+// The bytes of part over those of a block, from at on.
+pub fn put_over(b: &mut [u8], at: usize, part: &[u8])
+    requires { ⌜ at + length (now part) ≤ length (now b) ⌝ }
+    ensures { λ _. ⌜ now (b .exit) ≡ paste (now (b .entry)) at (now (part .entry)) (length (now (part .entry))) ⌝ }
+{
+    let mut i: usize = 0;
+    while i < part.len() {
+        b[at + i] = part[i];
+        i += 1;
+    }
+}
+
 // The first fill bytes of old, those of part, and zeros.
 pub fn join(old: [u8; 64], fill: usize, part: &[u8]) -> [u8; 64]
     requires { ⌜ fill + length (now part) ≤ 64 ⌝ }

@@ -22,7 +22,8 @@ use Rattle.image.specs.Check as image
 use Rattle.image.specs.Check.{Checks, checkImage}
 use Rattle.exchange.specs.PowerUp.{powerUp}
 use Rattle.exchange.specs.Commands.{Command}
-use Rattle.decision.specs.Numbers.{checkOf, reasonOf}
+use Rattle.image.specs.Verdict.{checkOf}
+use Rattle.decision.specs.Numbers.{reasonOf}
 use Rattle.loader.specs.declared.PowerUpAnswer.{PowerUpAnswer}
 use Rattle.loader.specs.Loader.{outcomeOf, answered}
 use Rattle.commands.specs.declared.CommandAnswer.{CommandAnswer}

@@ -8,7 +8,7 @@ use Rattle.flash.specs.Sizes.{geometry}
 use Rattle.flash.specs.Buffers.{Flash}
 use Rattle.exchange.specs.PowerUp.{PowerUp, powerUp}
 use Rattle.exchange.specs.Commands.{Command, arm, confirm}
-use Rattle.decision.specs.Numbers.{checkOf}
+use Rattle.image.specs.Verdict.{checkOf}
 use Rattle.c_headers.specs.Numbers.{refusalOf}
 use Rattle.c_loading.specs.Outcomes.{endedOf, reasonRefusal, countOf, powerRow}
 

@@ -9,22 +9,15 @@ use Rattle.flash.specs.declared.Geometry.{Geometry}
 use Rattle.flash.specs.Sizes.{firmware, partitionSize, Limits}
 use Rattle.flash.specs.Sectors.{sectorNumber}
 use Rattle.trailer.specs.declared.Flag.{Flag}
-use Rattle.trailer.specs.declared.Flag.the-variants.{Untouched, Saved, Moved, Exchanged}
+use Rattle.trailer.specs.declared.Flag.the-variants.{Untouched, Exchanged}
 use Rattle.trailer.specs.declared.FlagRead.the-variants.{Known}
 use Rattle.trailer.specs.declared.Leg.{Leg}
 use Rattle.trailer.specs.declared.Leg.the-variants.{UpdateToSwap, BootToUpdate, SwapToBoot}
 use Rattle.trailer.specs.declared.Flags.{Flags}
 use Rattle.trailer.specs.declared.Flags.the-variants.{AllF, At, All0}
-use Rattle.trailer.specs.SectorFlags.{flagAt, setFlag, flagsAt}
+use Rattle.trailer.specs.SectorFlags.{moved, flagAt, setFlag, flagsAt}
 use Rattle.trailer.proofs.Shown.{legFlag, shown-all-F, shown-all-0, shown-at, each-F}
 use Rattle.trailer.proofs.Laws.{flag-same, flag-other}
-
--- a flag with a moves behind it
-abbrev pub moved : ℕ → Flag
-moved zero = Untouched
-moved (suc zero) = Saved
-moved (suc (suc zero)) = Moved
-moved (suc (suc (suc a))) = Exchanged
 
 -- the moves that a flag has behind it, where it shows a leg
 abbrev pub legMoves : Leg → ℕ

@@ -23,6 +23,13 @@ flagValue Saved = 7
 flagValue Moved = 3
 flagValue Exchanged = 0
 
+-- a flag goes from F to 7, to 3, to 0: the flag with a moves behind it
+abbrev pub moved : ℕ → Flag
+moved zero = Untouched
+moved (suc zero) = Saved
+moved (suc (suc zero)) = Moved
+moved (suc (suc (suc a))) = Exchanged
+
 -- the flag whose value a half byte is
 unfoldable pub flagOf : ℕ → FlagRead
 flagOf h =

@@ -1,35 +1,40 @@
 use borrow.Author.Tests.{lt-ltb, le-ltb}
+use Rattle.image.proofs.Verdicts.{checked}
 use borrow.Author.Needs.{needs}
 use Rattle.decision.proofs.accept_update.Statement.{statement}
 use Rattle.decision.proofs.accept_update.Tie as tie
 
 returns : tie.Need-returns
 returns c =
-    let c2 = c .before .before in
-    let c4 = c2 .before .before in
+    let c4 = c .before .before .before .before in
     let c6 = c4 .before .before in
     let c8 = c6 .before .before in
-    rw (← (rw (c6 .version .given .1) at (c8 .check-image .ensures)), ← (rw (c2 .running .given .1) at (c4 .check-image2 .ensures)), lt-ltb _ _ (c .if1 .taken))
+    let c10 = c8 .before .before in
+    let a = c10 .before .before .before .args in
+    rw (checked (a .g) (a .update .now) _ (c10 .judge-partition .ensures) (c8 .coming .given .1), checked (a .g) (a .boot .now) _ (c6 .judge-partition2 .ensures) (c4 .running .given .1), lt-ltb _ _ (c .if1 .taken))
 
 returns-2 : tie.Need-returns-2
 returns-2 c =
-    let c2 = c .before .before in
-    let c4 = c2 .before .before in
+    let c4 = c .before .before .before .before in
     let c6 = c4 .before .before in
     let c8 = c6 .before .before in
-    rw (← (rw (c6 .version .given .1) at (c8 .check-image .ensures)), ← (rw (c2 .running .given .1) at (c4 .check-image2 .ensures)), le-ltb _ _ (c .if1 .left))
+    let c10 = c8 .before .before in
+    let a = c10 .before .before .before .args in
+    rw (checked (a .g) (a .update .now) _ (c10 .judge-partition .ensures) (c8 .coming .given .1), checked (a .g) (a .boot .now) _ (c6 .judge-partition2 .ensures) (c4 .running .given .1), le-ltb _ _ (c .if1 .left))
 
 returns-3 : tie.Need-returns-3
 returns-3 c =
     let c3 = c .before .before .before in
     let c5 = c3 .before .before in
     let c7 = c5 .before .before in
-    rw (← (rw (c5 .version .given .1) at (c7 .check-image .ensures)), ← (rw (c .before .o .given .1) at (c3 .check-image2 .ensures)))
+    let a = c7 .before .before .before .args in
+    rw (checked (a .g) (a .update .now) _ (c7 .judge-partition .ensures) (c5 .coming .given .1), checked (a .g) (a .boot .now) _ (c3 .judge-partition2 .ensures) (c .before .o .given .1))
 
 returns-4 : tie.Need-returns-4
 returns-4 c =
     let c3 = c .before .before .before in
-    rw (← (rw (c .before .o2 .given .1) at (c3 .check-image .ensures)))
+    let a = c3 .before .before .before .args in
+    rw (checked (a .g) (a .update .now) _ (c3 .judge-partition .ensures) (c .before .o2 .given .1))
 
 pub accept-update-spec : {M : Type 1} → statement M
 accept-update-spec =

@@ -1,5 +1,5 @@
 -- `has_digest` meets its contract. Assumes nothing.
-use mathlib.Core.Path.{_≡_, sym, ap, _∙_}
+use mathlib.Core.Path.{sym, _∙_}
 use Rattle.image.proofs.Laws.{same-is}
 use borrow.Author.Needs.{needs}
 use Rattle.image.proofs.has_digest.Statement.{statement}
@@ -7,10 +7,14 @@ use Rattle.image.proofs.has_digest.Tie as tie
 
 returns : tie.Need-returns
 returns c =
-    let c3 = c .before .before .before in
-    same-is _ _ (c .same .result) (λ e. sym (sym (c .same .ensures .0 e) ∙ c3 .digest .ensures)) (λ e. c .same .ensures .1 (c3 .digest .ensures ∙ e))
+    let d = c .before .before .digest in
+    same-is _ _ (c .same .result) (λ e. sym (d .ensures) ∙ c .same .ensures .0 e) (λ e. c .same .ensures .1 (d .ensures ∙ e))
 
 pub has-digest-spec : {M : Type 1} → statement M
 has-digest-spec =
     tie.close
-    (tie.spec (λ c κs. search needs) (λ c. search needs) (λ c. search needs) (λ c κs. search needs) returns)
+    (tie.spec
+    (λ c κs. search needs)
+    (λ c. search needs)
+    (λ c κs. search needs)
+    returns)

@@ -1,6 +1,6 @@
 use mathlib.Core.Path.{sym, ap, _∙_}
 use Rattle.exchange.specs.PowerUp.{Outcome, ifBootGood}
-use Rattle.decision.specs.Numbers.{checkOf}
+use Rattle.image.specs.Verdict.{checkOf}
 use borrow.Author.Needs.{needs}
 use Rattle.loader.proofs.outcome_at.Statement.{statement}
 use Rattle.loader.proofs.outcome_at.Tie as tie

@@ -2,7 +2,7 @@ use mathlib.Core.Path.{ap, _∙_}
 use Rattle.flash.specs.Buffers.{flash}
 use Rattle.flash.proofs.Checked.{boot-partition, update-partition}
 use Rattle.flash.proofs.Answers.{flash-given}
-use Rattle.decision.specs.Numbers.{checkOf}
+use Rattle.image.specs.Verdict.{checkOf}
 use Rattle.decision.specs.Parts.{planOf}
 use Rattle.loader.specs.declared.PowerUpAnswer.{PowerUpAnswer}
 use Rattle.loader.specs.Loader.{answered}

@@ -1,14 +1,15 @@
 -- `find_places` meets its contract: the table's judgement from each place on is the judgement of the whole header. Assumes nothing.
-use mathlib.Core.Path.{_≡_, _∙_, sym, refl}
-use Prim.Native.Nat.{ℕ, _+_, _≤_, _-_}
+use mathlib.Core.Path.{_≡_, sym, refl}
+use Prim.Native.Nat.{_-_}
 use native.Mathlib.Omega.{arith}
 use borrow.Author.Needs.{needs}
-use lib.ListN.{length, length-set, replicate}
+use lib.ListN.{length, length-set}
 use mathlib.Core.Logic.{⊎-elim}
 use lib.Seq.{length-take-le}
 use Rattle.places.specs.Table.{table}
 use Rattle.places.specs.Judging.{placesIn}
 use Rattle.places.proofs.Judged.{Goes, tag-in, skipped, wrong-length, repeated, taken, lacks, whole, too-short, does-not-fit, no-end, begun}
+use Rattle.places.proofs.Refusals.{turned, found}
 use Rattle.places.proofs.find_places.Statement.{statement}
 use Rattle.places.proofs.find_places.Tie as tie
 
@@ -27,20 +28,22 @@ loop-holds c =
 
 returns : tie.Need-returns Inv-loop μ-loop
 returns c =
-    let c3 = c .before .before .before in
-    let c5 = c3 .before .before in
-    let c7 = c5 .before .before in
-    let c8 = c7 .before in
-    wrong-length (c8 .loop .inv .1) (c7 .read-tag .ensures) (c5 .t .given .1) (c3 .row-of .ensures) (c .before .before .if1 .taken) (c .if2 .taken)
-
-returns-2 : tie.Need-returns-2 Inv-loop μ-loop
-returns-2 c =
-    let c3 = c .before .before .before in
-    let c4 = c3 .before in
+    let c4 = c .before .before .before .before in
     let c6 = c4 .before .before in
     let c8 = c6 .before .before in
     let c9 = c8 .before in
-    repeated (c9 .loop .inv .1) (c8 .read-tag .ensures) (c6 .t .given .1) (c4 .row-of .ensures) (c3 .if1 .taken) (c .before .if2 .left) (c .if3 .taken)
+    turned (c .refuse .ensures) refl
+    (wrong-length (c9 .loop .inv .1) (c8 .read-tag .ensures) (c6 .t .given .1) (c4 .row-of .ensures) (c .before .before .before .if1 .taken) (c .before .if2 .taken))
+
+returns-2 : tie.Need-returns-2 Inv-loop μ-loop
+returns-2 c =
+    let c4 = c .before .before .before .before in
+    let c5 = c4 .before in
+    let c7 = c5 .before .before in
+    let c9 = c7 .before .before in
+    let c10 = c9 .before in
+    turned (c .refuse2 .ensures) refl
+    (repeated (c10 .loop .inv .1) (c9 .read-tag .ensures) (c7 .t .given .1) (c5 .row-of .ensures) (c4 .if1 .taken) (c .before .before .if2 .left) (c .before .if3 .taken))
 
 add-at : tie.Need-add-at Inv-loop μ-loop
 add-at c =
@@ -81,26 +84,34 @@ slice-aggregate-row-of c =
 
 returns-3 : tie.Need-returns-3 Inv-loop μ-loop
 returns-3 c =
-    let c4 = c .before .before .before .before in
-    let c6 = c4 .before .before in
-    let c7 = c6 .before in
-    lacks (c7 .loop .inv .1) (c6 .read-tag .ensures) (c4 .enum-told .given .1) (c .before .before .row-of2 .ensures) (c .before .if4 .taken)
+    let c3 = c .before .before .before in
+    let c5 = c3 .before .before in
+    let c7 = c5 .before .before in
+    let c8 = c7 .before in
+    turned (c .refuse3 .ensures) refl
+    (lacks (c8 .loop .inv .1) (c7 .read-tag .ensures) (c5 .enum-told .given .1) (c3 .row-of2 .ensures) (c .before .before .if4 .taken))
 
 returns-4 : tie.Need-returns-4 Inv-loop μ-loop
 returns-4 c =
     let c3 = c .before .before .before in
     let c5 = c3 .before .before in
     let c6 = c5 .before in
-    whole (c6 .loop .inv .1) (c5 .read-tag .ensures) (c3 .enum-told .given .1) (c .before .row-of2 .ensures) (c .if4 .left)
+    found (whole (c6 .loop .inv .1) (c5 .read-tag .ensures) (c3 .enum-told .given .1) (c .before .row-of2 .ensures) (c .if4 .left))
 
 returns-5 : tie.Need-returns-5 Inv-loop μ-loop
-returns-5 c = too-short (c .before .before .before .loop .inv .1) (c .before .before .read-tag .ensures) (c .enum-told2 .given .1)
+returns-5 c =
+    let c3 = c .before .before .before in
+    turned (c .refuse4 .ensures) refl (too-short (c3 .before .loop .inv .1) (c3 .read-tag .ensures) (c .before .enum-told2 .given .1))
 
 returns-6 : tie.Need-returns-6 Inv-loop μ-loop
-returns-6 c = does-not-fit (c .before .before .before .before .loop .inv .1) (c .before .before .before .read-tag .ensures) (c .before .t2 .given .1)
+returns-6 c =
+    let c4 = c .before .before .before .before in
+    turned (c .refuse5 .ensures) refl (does-not-fit (c4 .before .loop .inv .1) (c4 .read-tag .ensures) (c .before .before .t2 .given .1))
 
 returns-7 : tie.Need-returns-7 Inv-loop μ-loop
-returns-7 c = no-end (c .before .before .before .before .loop .inv .1) (c .before .before .before .read-tag .ensures) (c .before .t3 .given .1)
+returns-7 c =
+    let c4 = c .before .before .before .before in
+    turned (c .refuse6 .ensures) refl (no-end (c4 .before .loop .inv .1) (c4 .read-tag .ensures) (c .before .before .t3 .given .1))
 
 pub find-places-spec : {M : Type 1} → statement M
 find-places-spec =
@@ -114,9 +125,11 @@ find-places-spec =
     (λ c κs. search needs)
     (λ c. omega arith)
     (λ c. omega arith)
+    (λ c κs. search needs)
     returns
     (λ c. omega arith)
     (λ c. omega arith)
+    (λ c κs. search needs)
     returns-2
     (λ c. omega arith)
     (λ c. omega arith)
@@ -130,11 +143,15 @@ find-places-spec =
     (λ c κs. search needs)
     (λ c. omega arith)
     (λ c. omega arith)
+    (λ c κs. search needs)
     returns-3
     returns-4
     (λ c. search needs)
+    (λ c κs. search needs)
     returns-5
     (λ c. search needs)
+    (λ c κs. search needs)
     returns-6
     (λ c. search needs)
+    (λ c κs. search needs)
     returns-7)

@@ -1,0 +1,51 @@
+-- Document 01, "Image check", as power-up and the calls beside it use it: what they need of a good image, and a bad one's number.
+use mathlib.Core.Path.{_≡_}
+use Prim.Native.Nat.{ℕ}
+use mathlib.Core.List.{List}
+use Rattle.refusals.specs.Answer.{Answer, gives, refused, then}
+use Rattle.flash.specs.declared.Geometry.{Geometry}
+use Rattle.flash.specs.Sectors.{firmwareOf}
+use Rattle.header.specs.declared.Header.{Header}
+use Rattle.image.specs.declared.ImageOutcome.{ImageOutcome}
+use Rattle.image.specs.declared.ImageOutcome.the-variants.{Good as GoodImage}
+use Rattle.image.specs.declared.Release.{Release}
+use Rattle.image.specs.declared.ImageVerdict.{ImageVerdict}
+use Rattle.image.specs.declared.ImageVerdict.the-variants.{Good, Bad}
+use Rattle.image.specs.Check.{answerOf, imageIn}
+
+-- Of a good image's values: its version, its size and its timestamp.
+abbrev pub releaseOf : Header → Release
+releaseOf v = record { version = v .version; size = v .size; timestamp = v .timestamp }
+
+-- The check's answer with the release in place of the header.
+abbrev pub released : Answer Header → Answer Release
+released a = then a (λ v. gives (releaseOf v))
+
+-- The check as power-up's rules use it: the version of the image in the firmware sectors, or its refusal. The trailer sector has no say.
+unfoldable pub checkOf : Geometry → List ℕ → Answer ℕ
+checkOf g l = then (imageIn (firmwareOf g l)) (λ v. gives (v .version))
+
+-- A bad image's own number and place, which 12, 13 and a turning-down reason carry. For a good image, which none of them is about, 0
+-- stands there, which is no number of 01.
+pub record Own : Type 0 where
+  pub number : ℕ
+  pub place : ℕ
+
+-- Those of an answer, whatever it would give.
+abbrev pub own : Answer (Unit {0}) → Own
+own (gives t) = record { number = 0; place = 0 }
+own (refused n p) = record { number = n; place = p }
+
+-- Those of the code's outcome.
+abbrev pub ownOf : ImageOutcome → Own
+ownOf o = own (answerOf o tt)
+
+-- What the code's verdict says: a good image's release, or a bad one's own number and place.
+abbrev pub verdictOf : ImageVerdict → Answer Release
+verdictOf (Good r) = gives r
+verdictOf (Bad o) = refused (ownOf o .number) (ownOf o .place)
+
+-- What a verdict promises of the answer that the rules give: it says the same, and no good image is told as a bad one.
+pub record Judges (answer : Answer Header) (r : ImageVerdict) : Type 0 where
+  pub verdict : verdictOf r ≡ released answer
+  pub bad : (o : ImageOutcome) → r ≡ Bad o → o ≡ GoodImage → ⊥
