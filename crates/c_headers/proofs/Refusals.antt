@@ -1,6 +1,6 @@
 -- Refusals by their numbers. Assumes nothing.
 use mathlib.Core.Path.{_≡_, refl}
-use Rattle.refusals.specs.Answer.{Answer, gives, refused}
+use Rattle.numbers.specs.Answer.{Answer, gives, refused}
 use Rattle.image.specs.Check as image
 use Rattle.c_headers.specs.Numbers.{refusalOf}
 

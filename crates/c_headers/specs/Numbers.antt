@@ -1,9 +1,9 @@
 -- The numbers by which a C caller gets a refusal and a bool.
 use Prim.Native.Nat.{ℕ}
 use mathlib.Core.Bool.{Bool, true, false}
-use Rattle.refusals.specs.Answer.{Answer, gives, refused}
-use Rattle.places.specs.declared.HeaderOutcome.{HeaderOutcome}
-use Rattle.places.specs.Judging as header
+use Rattle.numbers.specs.Answer.{Answer, gives, refused}
+use Rattle.header_places.specs.declared.HeaderOutcome.{HeaderOutcome}
+use Rattle.header_places.specs.Judging as header
 use Rattle.image.specs.declared.ImageOutcome.{ImageOutcome}
 use Rattle.image.specs.Check as image
 use Rattle.c_headers.specs.declared.Refused.{Refused}

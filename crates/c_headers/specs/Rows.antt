@@ -1,9 +1,9 @@
 -- The rows of numbers and bytes of a header and a tag.
 use Prim.Native.Nat.{ℕ}
 use mathlib.Core.List.{List, [], _∷_, _++_}
-use Rattle.refusals.specs.Answer.{Answer, gives, refused}
-use Rattle.header.specs.declared.Header.{Header}
-use Rattle.tags.specs.Walk.{Item, tag, end}
+use Rattle.numbers.specs.Answer.{Answer, gives, refused}
+use Rattle.header_reader.specs.declared.Header.{Header}
+use Rattle.header_tags.specs.Walk.{Item, tag, end}
 use Rattle.c_headers.specs.Numbers.{bitOf}
 
 -- A header's values: the numbers, behind the place of a refusal, and the bytes.

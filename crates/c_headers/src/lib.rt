@@ -1,15 +1,15 @@
 // The numbers and rows by which a C caller gets a header read or written, an image check and a tag.
-use header::Header;
+use header_places::HeaderOutcome;
+use header_reader::Header;
+use header_tags::Tag;
 use header_writer::WriteOutcome;
 use image::ImageOutcome;
 use output::put;
-use places::HeaderOutcome;
-use tags::Tag;
 ghost use mathlib.Core.Path.{_≡_};
 ghost use mathlib.Core.List.{_++_};
 ghost use lib.ListN.{length};
 ghost use Rattle.header_writer.specs.Writing as writer;
-ghost use Rattle.tags.specs.Walk.{itemOf};
+ghost use Rattle.header_tags.specs.Walk.{itemOf};
 ghost use Rattle.c_headers.specs.Numbers.{refusedAt, refusalOf, headerRefusal, imageRefusal, bitOf};
 ghost use Rattle.c_headers.specs.Rows.{headerNumbers, bytesOf, tagRow};
 

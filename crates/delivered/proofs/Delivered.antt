@@ -5,9 +5,9 @@ use Rattle.exchange.specs.Demand.{ReadsFirmware}
 use Rattle.exchange.specs.Cases.{exchangeCases, three}
 use Rattle.exchange.proofs.Whole.{demand-3-ongoing, demand-3}
 use Rattle.exchange.proofs.Cases.{marked-exchange}
-use Rattle.refusals.proofs.Every.{every-map, every-append}
-use Rattle.round_trips.specs.Cases.{headerCases}
-use Rattle.round_trips.proofs.Marked.{header-cases}
+use Rattle.numbers.proofs.Every.{every-map, every-append}
+use Rattle.header_round_trips.specs.Cases.{headerCases}
+use Rattle.header_round_trips.proofs.Marked.{header-cases}
 use Rattle.image.specs.Verdict.{checkOf}
 use Rattle.image.proofs.Verdicts.{check-reads-firmware}
 use Rattle.delivered.specs.Demand.{Demand3, Demand3Ongoing}

@@ -2,13 +2,13 @@
 use mathlib.Core.Path.{refl}
 use Rattle.flash.specs.Sizes.{firmware, withinLimits}
 use Rattle.flash.specs.Buffers.{partitionFits, fits}
-use Rattle.status.specs.StatusBytes.{statusByte, bootStatusOf, updateStatusOf}
-use Rattle.trailer.specs.SectorFlags.{flagOf, flagByte, half, flagAt, flagsFrom, flags, allF, pastZeros, flagsShown, flagsAt}
-use Rattle.fips180.specs.Sha256.{first, bigEndian, Ch, Maj, Σ₀, Σ₁, σ₀, σ₁, K, zeros, padding, pad, block, word, words, H0, nextWord, schedule, round, rounds, nextHash, compress, hash, bytes, sha256}
-use Rattle.tags.specs.Walk.{itemAt, itemFrom, tagsFrom}
-use Rattle.tags.specs.Bytes.{fieldBytes}
-use Rattle.places.specs.Judging.{rowOf, judge, placesIn}
-use Rattle.header.specs.Reading.{tagPlaces}
+use Rattle.flash_status.specs.StatusBytes.{statusByte, bootStatusOf, updateStatusOf}
+use Rattle.flash_flags.specs.SectorFlags.{flagOf, flagByte, half, flagAt, flagsFrom, flags, allF, pastZeros, flagsShown, flagsAt}
+use Rattle.digest_fips180.specs.Sha256.{first, bigEndian, Ch, Maj, Σ₀, Σ₁, σ₀, σ₁, K, zeros, padding, pad, block, word, words, H0, nextWord, schedule, round, rounds, nextHash, compress, hash, bytes, sha256}
+use Rattle.header_tags.specs.Walk.{itemAt, itemFrom, tagsFrom}
+use Rattle.header_tags.specs.Bytes.{fieldBytes}
+use Rattle.header_places.specs.Judging.{rowOf, judge, placesIn}
+use Rattle.header_reader.specs.Reading.{tagPlaces}
 use Rattle.header_writer.specs.Writing.{headerBytes}
 use Rattle.image.specs.Check.{same, imageIn}
 use Rattle.exchange.specs.Decision.{decide}

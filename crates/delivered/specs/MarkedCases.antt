@@ -1,10 +1,10 @@
 -- Document 01, "Marked cases": all lines marked P, 1 to 9, as one list and one claim, of the delivered check and the delivered header rules.
 use mathlib.Core.List.{List, _++_, map}
-use Rattle.refusals.specs.Every.{Every}
+use Rattle.numbers.specs.Every.{Every}
 use Rattle.exchange.specs.Cases as exchange
 use Rattle.exchange.specs.Cases.{ExchangeCase, exchangeCases}
-use Rattle.round_trips.specs.Cases as header
-use Rattle.round_trips.specs.Cases.{HeaderCase, headerCases}
+use Rattle.header_round_trips.specs.Cases as header
+use Rattle.header_round_trips.specs.Cases.{HeaderCase, headerCases}
 use Rattle.image.specs.Verdict.{checkOf}
 
 -- Lines 1 to 6 speak of exchanges, lines 7 to 9 of headers.

@@ -5,8 +5,8 @@ use mathlib.Core.Bool.{false}
 use mathlib.Core.List.{List, [], _∷_, _++_}
 use Prim.Native.Nat.{ℕ, _+_, _≤_}
 use lib.ListN.{length, replicate}
-use Rattle.fips180.specs.Sha256.{sha256}
-use Rattle.header.specs.declared.Header.{Header}
+use Rattle.digest_fips180.specs.Sha256.{sha256}
+use Rattle.header_reader.specs.declared.Header.{Header}
 use Rattle.header_writer.specs.Writing.{headerBytes}
 use Rattle.flash.specs.Buffers.{Flash, flash}
 use Rattle.exchange.specs.LostPower.{Torn}

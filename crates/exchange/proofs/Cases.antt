@@ -8,19 +8,19 @@ use native.Mathlib.Omega.{arith}
 use lib.ListN.{getD}
 use lib.Dec.{leb, ltb, eqb}
 use borrow.Author.Tests.{eqb-true, lt-leb, le-leb, lt-ltb, le-ltb}
-use Rattle.refusals.specs.Answer.{Answer, gives, refused}
+use Rattle.numbers.specs.Answer.{Answer, gives, refused}
 use Rattle.flash.specs.Sizes.{firmware, Limits}
 use Rattle.flash.specs.Buffers.{Flash, Shaped, fits}
-use Rattle.status.specs.declared.BootStatus.{BootStatus}
-use Rattle.status.specs.declared.BootStatus.the-variants.{New as BootNew, Testing, Success}
-use Rattle.status.specs.declared.UpdateStatus.{UpdateStatus}
-use Rattle.status.specs.declared.UpdateStatus.the-variants.{New as UpdateNew, Updating}
-use Rattle.trailer.specs.declared.Flag.{Flag}
-use Rattle.trailer.specs.declared.FlagRead.the-variants.{Known}
-use Rattle.trailer.specs.declared.Flags.{Flags}
-use Rattle.trailer.specs.declared.Flags.the-variants.{Malformed, AllF, At, All0}
-use Rattle.status.specs.StatusBytes.{bootStatusAt, updateStatusAt}
-use Rattle.trailer.specs.SectorFlags.{moved, flagValue, flagOf, flagByte, half, flagAt, flagsFrom, flags, allF, pastZeros, flagsShown, flagsAt}
+use Rattle.flash_status.specs.declared.BootStatus.{BootStatus}
+use Rattle.flash_status.specs.declared.BootStatus.the-variants.{New as BootNew, Testing, Success}
+use Rattle.flash_status.specs.declared.UpdateStatus.{UpdateStatus}
+use Rattle.flash_status.specs.declared.UpdateStatus.the-variants.{New as UpdateNew, Updating}
+use Rattle.flash_flags.specs.declared.Flag.{Flag}
+use Rattle.flash_flags.specs.declared.FlagRead.the-variants.{Known}
+use Rattle.flash_flags.specs.declared.Flags.{Flags}
+use Rattle.flash_flags.specs.declared.Flags.the-variants.{Malformed, AllF, At, All0}
+use Rattle.flash_status.specs.StatusBytes.{bootStatusAt, updateStatusAt}
+use Rattle.flash_flags.specs.SectorFlags.{moved, flagValue, flagOf, flagByte, half, flagAt, flagsFrom, flags, allF, pastZeros, flagsShown, flagsAt}
 use Rattle.exchange.specs.declared.Next.{Next}
 use Rattle.exchange.specs.declared.Next.the-variants.{Do, Nothing}
 use Rattle.exchange.specs.declared.Job.the-variants.{Update}
@@ -28,10 +28,10 @@ use Rattle.exchange.specs.Order.{nextOperation, Run, run}
 use Rattle.exchange.specs.Decision.{Check, noReason, work, decideBy, decide}
 use Rattle.exchange.specs.PowerUp.{Outcome, refusal, cut, PowerUp, doneOutcome, outcomeBy, worked, powerUp}
 use Rattle.exchange.specs.Demand.{Exchange, update, fallback, jobOf, ReadsFirmware, Underway, from-new, from-success, from-testing}
-use Rattle.refusals.specs.Every.{Every}
+use Rattle.numbers.specs.Every.{Every}
 use Rattle.exchange.specs.Cases.{three, flagByteOf, after, counts, lastOutcome, Leaves, ExchangeCase, powerUps, malformed, FlagByteIs, LeavesAs, Holds, exchangeCases, MarkedExchange}
 use Rattle.flash.proofs.Checked.{shaped-of}
-use Rattle.trailer.proofs.Moves.{legMoves, leg-below}
+use Rattle.flash_flags.proofs.Moves.{legMoves, leg-below}
 use Rattle.exchange.proofs.Orders.{decide-by-reads}
 use Rattle.exchange.proofs.Accepted.{Images, update-good, begun}
 use Rattle.exchange.proofs.Stage.{Closing, erase-boot, write-testing, erase-update, write-success, closingLeft, closing, Closed, on-test, fallen-back, Stage, in-leg, at-last, at-end, Stepped, stepped, step}
@@ -39,7 +39,7 @@ use Rattle.exchange.proofs.Walked.{closing-some, Walked, walked, ended,
 use Rattle.exchange.proofs.Decided.{Decides}
 use Rattle.exchange.proofs.Played.{OldRuns, old-runs, works, end-good}
 use Rattle.exchange.proofs.Whole.{begins, stands-first}
-use Rattle.refusals.proofs.Every.{every}
+use Rattle.numbers.proofs.Every.{every}
 
 two : firmware three ≡ 2
 unfolding firmware
@@ -47,11 +47,11 @@ two = refl
 
 -- ---- what the numbers predict: l closing operations, r operations left
 
-abbrev placeLeft : ℕ → ℕ → ℕ
-placeLeft l q = cond (leb q l) 0 ((18 + l - q) % 3)
+abbrev phaseLeft : ℕ → ℕ → ℕ
+phaseLeft l q = cond (leb q l) 0 ((18 + l - q) % 3)
 
 abbrev nextLeft : ℕ → ℕ → ℕ → ℕ
-nextLeft l r b = r - min b r + placeLeft l (r - min b r)
+nextLeft l r b = r - min b r + phaseLeft l (r - min b r)
 
 abbrev leftAfter : ℕ → ℕ → List ℕ → ℕ
 leftAfter l r [] = r
@@ -162,12 +162,12 @@ record Predicted (x : Exchange) (l r : ℕ) (bs : List ℕ) (y : Leaves) : Type 
 module _ (check : Check) (old : Flash) (G : Limits three) {x : Exchange} {b₀ : BootStatus} {u₀ : UpdateStatus} (B : Underway x b₀ u₀)
     (I : OldRuns check three old)
     (top : (b : BootStatus) (u : UpdateStatus) (c : Closing x b u) → closingLeft c ≤ closingLeft (closing B)) where
-  -- the place is known by the operations left
-  place-of : (f : Flash) (p q : ℕ) → Stage (Decides check three B) three old B f p q → p ≡ placeLeft (closingLeft (closing B)) q
-  place-of f p q (in-leg i leg hi hp s d e₁ e₂ ready n) =
+  -- the phase is known by the operations left
+  phase-of : (f : Flash) (p q : ℕ) → Stage (Decides check three B) three old B f p q → p ≡ phaseLeft (closingLeft (closing B)) q
+  phase-of f p q (in-leg i leg hi hp s d e₁ e₂ ready n) =
       rw (lt-leb q (closingLeft (closing B)) (omega (arith, two, leg-below leg))) (omega (arith, two, leg-below leg))
-  place-of f p q (at-last b u c le s e₁ e₂ n z) = rw (le-leb q (closingLeft (closing B)) (omega (arith, top b u c))) z
-  place-of f p q (at-end b u c y s e₁ e₂ n z) = rw (le-leb q (closingLeft (closing B)) (omega arith)) z
+  phase-of f p q (at-last b u c le s e₁ e₂ n z) = rw (le-leb q (closingLeft (closing B)) (omega (arith, top b u c))) z
+  phase-of f p q (at-end b u c y s e₁ e₂ n z) = rw (le-leb q (closingLeft (closing B)) (omega arith)) z
 
   record Ran (f : Flash) (r : ℕ) (bs : List ℕ) (o : Outcome) : Type 0 where
     stage : Stage (Decides check three B) three old B (after check f bs) 0 (leftAfter (closingLeft (closing B)) r bs)
@@ -182,9 +182,9 @@ module _ (check : Check) (old : Flash) (G : Limits three) {x : Exchange} {b₀ :
   one-run : (f : Flash) (r b : ℕ) (w : Run) → Walked (Decides check three B) three old B (suc r) b w → One f (suc r) b (worked check three (jobOf x) noReason w)
   one-run f r b w v = record {
     stage =
-        let y : Stage (Decides check three B) three old B (w .flash) (w .place) (suc r - min b (suc r)) = subst (λ (n : ℕ). Stage (Decides check three B) three old B (w .flash) (w .place) (suc r - n)) (v .counted) (v .stage) in
-        subst (λ (p : ℕ). Stage (Decides check three B) three old B (w .flash) 0 (suc r - min b (suc r) + p)) (place-of (w .flash) (w .place) (suc r - min b (suc r)) y)
-        (restart three G old B (w .flash) (w .place) (suc r - min b (suc r)) y);
+        let y : Stage (Decides check three B) three old B (w .flash) (w .phase) (suc r - min b (suc r)) = subst (λ (n : ℕ). Stage (Decides check three B) three old B (w .flash) (w .phase) (suc r - n)) (v .counted) (v .stage) in
+        subst (λ (p : ℕ). Stage (Decides check three B) three old B (w .flash) 0 (suc r - min b (suc r) + p)) (phase-of (w .flash) (w .phase) (suc r - min b (suc r)) y)
+        (restart three G old B (w .flash) (w .phase) (suc r - min b (suc r)) y);
     counted = v .counted;
     ends = by (suc r - w .count) refl (v .stage);
   }
@@ -192,14 +192,14 @@ module _ (check : Check) (old : Flash) (G : Limits three) {x : Exchange} {b₀ :
       goal : Type 0
       goal = (worked check three (jobOf x) noReason w) .outcome ≡ cond (ltb b (suc r)) cut (doneOutcome (jobOf x))
 
-      by : (q : ℕ) → suc r - w .count ≡ q → Stage (Decides check three B) three old B (w .flash) (w .place) q → goal
+      by : (q : ℕ) → suc r - w .count ≡ q → Stage (Decides check three B) three old B (w .flash) (w .phase) q → goal
       by zero e y =
           rw (le-ltb b (suc r) (omega (arith, v .counted)))
-          (ap₂ (λ (o : Next) (z : Answer ℕ). outcomeBy o (jobOf x) z) (ended three G old B (w .flash) (w .place) y)
-          (end-good check three G old B I (w .flash) (w .place) y .good))
-      by (suc q) e y = cuts (step three G old B (w .flash) (w .place) q y)
+          (ap₂ (λ (o : Next) (z : Answer ℕ). outcomeBy o (jobOf x) z) (ended three G old B (w .flash) (w .phase) y)
+          (end-good check three G old B I (w .flash) (w .phase) y .good))
+      by (suc q) e y = cuts (step three G old B (w .flash) (w .phase) q y)
         where
-          cuts : Stepped (Decides check three B) three old B (w .flash) (w .place) q → goal
+          cuts : Stepped (Decides check three B) three old B (w .flash) (w .phase) q → goal
           cuts (stepped o n s′ torn) = rw (lt-ltb b (suc r) (omega (arith, v .counted))) (ap (λ (z : Next). outcomeBy z (jobOf x) (check three (w .flash .boot))) n)
 
   one : (f : Flash) (r b : ℕ) → Stage (Decides check three B) three old B f 0 (suc r) → One f (suc r) b (powerUp check three f b)
@@ -345,7 +345,7 @@ law check R (powerUps update bs y) a = update-case check R bs y a
 law check R (powerUps fallback bs y) a = fallback-case check R bs y a
 law check R (malformed b true) a = λ f budget fit e₁ e₂ e. rw (fit, e₁, e₂, flags-by-byte (f .update) b e ∙ a) refl
 law check R (malformed b false) a = λ f budget fit e₁ e₂ e i p k.
-    not-11 (nextOperation Update three ((run Update three budget 0 f) .place) ((run Update three budget 0 f) .flash)) (check three ((run Update three budget 0 f) .flash .boot)) i p
+    not-11 (nextOperation Update three ((run Update three budget 0 f) .phase) ((run Update three budget 0 f) .flash)) (check three ((run Update three budget 0 f) .flash .boot)) i p
     (rw (fit, e₁, e₂, flags-by-byte (f .update) b e, resumes-update (shownBy b) (check three (f .update)) (check three (f .boot)) a) at k)
 
 -- the numbers are computed

@@ -1,12 +1,12 @@
 -- Power lost in arm or confirm leaves the bytes before, between or after its operations.
 use mathlib.Core.Bool.{Bool, true, false, cond}
 use Prim.Native.Nat.{ℕ, zero, suc}
-use Rattle.refusals.specs.Answer.{Answer, gives, refused}
+use Rattle.numbers.specs.Answer.{Answer, gives, refused}
 use Rattle.flash.specs.declared.Geometry.{Geometry}
 use Rattle.flash.specs.Buffers.{Flash}
-use Rattle.status.specs.declared.BootStatus.the-variants.{Success}
-use Rattle.status.specs.declared.UpdateStatus.the-variants.{Updating}
-use Rattle.trailer.specs.SectorFlags.{flagsAt}
+use Rattle.flash_status.specs.declared.BootStatus.the-variants.{Success}
+use Rattle.flash_status.specs.declared.UpdateStatus.the-variants.{Updating}
+use Rattle.flash_flags.specs.SectorFlags.{flagsAt}
 use Rattle.exchange.specs.declared.Operation.the-variants.{EraseUpdateTrailer, WriteBootStatus, WriteUpdateStatus}
 use Rattle.exchange.specs.Operations.{perform}
 use Rattle.exchange.specs.Commands.{checked, mayArm, armOperations, mayConfirm, confirmOperations}

@@ -3,21 +3,21 @@ use mathlib.Core.Path.{_≡_, refl, _∙_}
 use mathlib.Core.List.{List}
 use Prim.Native.Nat.{ℕ, zero, suc, _+_, _*_}
 use native.Mathlib.Omega.{arith}
-use Rattle.refusals.specs.Answer.{Answer}
+use Rattle.numbers.specs.Answer.{Answer}
 use Rattle.flash.specs.declared.Geometry.{Geometry}
 use Rattle.flash.specs.declared.SectorNumber.{SectorNumber}
 use Rattle.flash.specs.Sizes.{Limits}
 use Rattle.flash.specs.Sectors.{sectorNumber}
 use Rattle.flash.specs.Buffers.{Flash, Shaped}
-use Rattle.status.specs.declared.BootStatus.{BootStatus}
-use Rattle.status.specs.declared.UpdateStatus.{UpdateStatus}
-use Rattle.trailer.specs.declared.Leg.{Leg}
-use Rattle.trailer.specs.declared.Leg.the-variants.{UpdateToSwap, BootToUpdate, SwapToBoot}
-use Rattle.trailer.specs.declared.Flags.the-variants.{AllF, At, All0}
+use Rattle.flash_status.specs.declared.BootStatus.{BootStatus}
+use Rattle.flash_status.specs.declared.UpdateStatus.{UpdateStatus}
+use Rattle.flash_flags.specs.declared.Leg.{Leg}
+use Rattle.flash_flags.specs.declared.Leg.the-variants.{UpdateToSwap, BootToUpdate, SwapToBoot}
+use Rattle.flash_flags.specs.declared.Flags.the-variants.{AllF, At, All0}
 use Rattle.exchange.specs.Decision.{Check, noReason, work, decideBy, decide}
 use Rattle.exchange.specs.Demand.{Exchange, jobOf, Underway, from-new, from-success, from-testing}
 use Rattle.flash.proofs.Checked.{shaped-fits}
-use Rattle.trailer.proofs.Moves.{legMoves, atLeg, shown-leg}
+use Rattle.flash_flags.proofs.Moves.{legMoves, atLeg, shown-leg}
 use Rattle.exchange.proofs.Orders.{decide-by-reads}
 use Rattle.exchange.proofs.Stage.{Closing, erase-boot, write-testing, erase-update, write-success, Stage, in-leg, at-last, at-end, all-0}
 

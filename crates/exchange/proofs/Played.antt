@@ -6,12 +6,12 @@ use Prim.Native.Nat.{ℕ, zero, suc, _+_, _-_, _*_, _≤_, _<_}
 use native.Mathlib.Decide.{decLt}
 use native.Mathlib.Omega.{arith}
 use lib.ListN.{length}
-use Rattle.refusals.specs.Answer.{Answer}
+use Rattle.numbers.specs.Answer.{Answer}
 use Rattle.flash.specs.declared.Geometry.{Geometry}
 use Rattle.flash.specs.Sizes.{firmware, partitionSize, Limits}
 use Rattle.flash.specs.Buffers.{Flash, Shaped, fits}
-use Rattle.status.specs.declared.BootStatus.{BootStatus}
-use Rattle.status.specs.declared.UpdateStatus.{UpdateStatus}
+use Rattle.flash_status.specs.declared.BootStatus.{BootStatus}
+use Rattle.flash_status.specs.declared.UpdateStatus.{UpdateStatus}
 use Rattle.exchange.specs.declared.Next.{Next}
 use Rattle.exchange.specs.declared.Next.the-variants.{Nothing}
 use Rattle.exchange.specs.declared.Area.the-variants.{Boot, Update}
@@ -23,11 +23,11 @@ use Rattle.exchange.specs.LostPower.{Torn, tearNext}
 use Rattle.exchange.specs.Demand.{Exchange, update, jobOf, ReadsFirmware, Finished, untorn, lost, Event, Left, leftUntorn, left, flashLeft, EndsAsAllowed, FlagMovedOn, IsRefusal, MovesOn, CutOrDone, Answers, Underway}
 use Rattle.flash.proofs.Bytes.{sectors-front}
 use Rattle.flash.proofs.Checked.{shaped-of, shaped-fits, same-geometry}
-use Rattle.trailer.proofs.Moves.{leg-below}
+use Rattle.flash_flags.proofs.Moves.{leg-below}
 use Rattle.exchange.proofs.Stage.{Stage, in-leg, at-last, at-end, Stepped, stepped, step}
 use Rattle.exchange.proofs.Runs.{power-up-works}
-use Rattle.exchange.proofs.Walked.{closing-some, Walked, walked, ended, place-small, restart}
-use Rattle.exchange.proofs.Shows.{end-of, end-place, unfinished, moved-on}
+use Rattle.exchange.proofs.Walked.{closing-some, Walked, walked, ended, phase-small, restart}
+use Rattle.exchange.proofs.Shows.{end-of, end-phase, unfinished, moved-on}
 use Rattle.exchange.proofs.Decided.{Decides, decided, shaped-at}
 
 -- a flash whose BOOT holds what the old UPDATE held runs
@@ -98,7 +98,7 @@ module _ (check : Check) (g : Geometry) (G : Limits g) (old : Flash) {x : Exchan
     pub works : (k : ℕ) → powerUp check g f k ≡ worked check g (jobOf x) noReason (run (jobOf x) g k 0 f)
     works k = power-up-works check g f k (jobOf x) noReason (decided check g G old B f r s)
 
-    pub next-in : (k : ℕ) → nextAfter check g f k ≡ nextOperation (jobOf x) g ((run (jobOf x) g k 0 f) .place) ((run (jobOf x) g k 0 f) .flash)
+    pub next-in : (k : ℕ) → nextAfter check g f k ≡ nextOperation (jobOf x) g ((run (jobOf x) g k 0 f) .phase) ((run (jobOf x) g k 0 f) .flash)
     unfolding nextAfter
     next-in k = ap (nextIn g f k) (decided check g G old B f r s)
 
@@ -109,39 +109,39 @@ module _ (check : Check) (g : Geometry) (G : Limits g) (old : Flash) {x : Exchan
         goal : Type 0
         goal = Paid (suc r) (leftUntorn (worked check g (jobOf x) noReason w))
 
-        by : (q : ℕ) → suc r - w .count ≡ q → Stage (Decides check g B) g old B (w .flash) (w .place) q → goal
+        by : (q : ℕ) → suc r - w .count ≡ q → Stage (Decides check g B) g old B (w .flash) (w .phase) q → goal
         by zero e y = record {
-          rest = 0 + w .place;
-          stage = restart g G old B (w .flash) (w .place) 0 y;
-          paid = omega (arith, v .counted, end-place g old B (w .flash) (w .place) y);
+          rest = 0 + w .phase;
+          stage = restart g G old B (w .flash) (w .phase) 0 y;
+          paid = omega (arith, v .counted, end-phase g old B (w .flash) (w .phase) y);
         }
-        by (suc q) e y = cuts (step g G old B (w .flash) (w .place) q y)
+        by (suc q) e y = cuts (step g G old B (w .flash) (w .phase) q y)
           where
-            cuts : Stepped (Decides check g B) g old B (w .flash) (w .place) q → goal
+            cuts : Stepped (Decides check g B) g old B (w .flash) (w .phase) q → goal
             cuts (stepped o n s′ torn) = record {
-              rest = suc q + w .place;
-              stage = restart g G old B (w .flash) (w .place) (suc q) y;
-              paid = rw n (omega (arith, v .counted, place-small g G old B (w .flash) (w .place) (suc q) y));
+              rest = suc q + w .phase;
+              stage = restart g G old B (w .flash) (w .phase) (suc q) y;
+              paid = rw n (omega (arith, v .counted, phase-small g G old B (w .flash) (w .phase) (suc q) y));
             }
 
     -- power lost after k
     pays-lost : (k : ℕ) (t : Torn) (w : Run) → length (t .bytes) ≡ g .size → k ≤ suc r → Walked (Decides check g B) g old B (suc r) k w
-        → Paid (suc r) (record { flash = tearNext g t (nextOperation (jobOf x) g (w .place) (w .flash)) (w .flash); done = k; early = 1 })
+        → Paid (suc r) (record { flash = tearNext g t (nextOperation (jobOf x) g (w .phase) (w .flash)) (w .flash); done = k; early = 1 })
     pays-lost k t w T h v = by (suc r - w .count) refl (v .stage)
       where
         goal : Type 0
-        goal = Paid (suc r) (record { flash = tearNext g t (nextOperation (jobOf x) g (w .place) (w .flash)) (w .flash); done = k; early = 1 })
+        goal = Paid (suc r) (record { flash = tearNext g t (nextOperation (jobOf x) g (w .phase) (w .flash)) (w .flash); done = k; early = 1 })
 
-        by : (q : ℕ) → suc r - w .count ≡ q → Stage (Decides check g B) g old B (w .flash) (w .place) q → goal
+        by : (q : ℕ) → suc r - w .count ≡ q → Stage (Decides check g B) g old B (w .flash) (w .phase) q → goal
         by zero e y =
-            rw (ended g G old B (w .flash) (w .place) y)
-            (record { rest = 0 + w .place; stage = restart g G old B (w .flash) (w .place) 0 y; paid = omega (arith, v .counted, end-place g old B (w .flash) (w .place) y) })
-        by (suc q) e y = breaks (step g G old B (w .flash) (w .place) q y)
+            rw (ended g G old B (w .flash) (w .phase) y)
+            (record { rest = 0 + w .phase; stage = restart g G old B (w .flash) (w .phase) 0 y; paid = omega (arith, v .counted, end-phase g old B (w .flash) (w .phase) y) })
+        by (suc q) e y = breaks (step g G old B (w .flash) (w .phase) q y)
           where
-            breaks : Stepped (Decides check g B) g old B (w .flash) (w .place) q → goal
+            breaks : Stepped (Decides check g B) g old B (w .flash) (w .phase) q → goal
             breaks (stepped o n s′ torn) =
                 rw n
-                (record { rest = (torn t T) .0; stage = (torn t T) .2; paid = omega (arith, (torn t T) .1, v .counted, place-small g G old B (w .flash) (w .place) (suc q) y) })
+                (record { rest = (torn t T) .0; stage = (torn t T) .2; paid = omega (arith, (torn t T) .1, v .counted, phase-small g G old B (w .flash) (w .phase) (suc q) y) })
 
     -- at the end BOOT holds the old UPDATE's firmware, which was good
     pub says-untorn : (b : ℕ) (w : Run) → Walked (Decides check g B) g old B (suc r) b w
@@ -151,16 +151,16 @@ module _ (check : Check) (g : Geometry) (G : Limits g) (old : Flash) {x : Exchan
         goal : Type 0
         goal = CutOrDone x g ((worked check g (jobOf x) noReason w) .outcome) (w .flash)
 
-        by : (q : ℕ) → Stage (Decides check g B) g old B (w .flash) (w .place) q → goal
+        by : (q : ℕ) → Stage (Decides check g B) g old B (w .flash) (w .phase) q → goal
         by zero y =
             inr (
-              ap₂ (λ (o : Next) (z : Answer ℕ). outcomeBy o (jobOf x) z) (ended g G old B (w .flash) (w .place) y) (end-good (w .flash) (w .place) y .good),
-              end-of g old B (w .flash) (w .place) y,
+              ap₂ (λ (o : Next) (z : Answer ℕ). outcomeBy o (jobOf x) z) (ended g G old B (w .flash) (w .phase) y) (end-good (w .flash) (w .phase) y .good),
+              end-of g old B (w .flash) (w .phase) y,
             )
-        by (suc q) y = cuts (step g G old B (w .flash) (w .place) q y)
+        by (suc q) y = cuts (step g G old B (w .flash) (w .phase) q y)
           where
-            cuts : Stepped (Decides check g B) g old B (w .flash) (w .place) q → goal
-            cuts (stepped o n s′ torn) = inl (ap (λ (z : Next). outcomeBy z (jobOf x) (check g (w .flash .boot))) n, unfinished g old B (w .flash) (w .place) q y)
+            cuts : Stepped (Decides check g B) g old B (w .flash) (w .phase) q → goal
+            cuts (stepped o n s′ torn) = inl (ap (λ (z : Next). outcomeBy z (jobOf x) (check g (w .flash .boot))) n, unfinished g old B (w .flash) (w .phase) q y)
 
     moves-untorn : (b : ℕ) → 3 ≤ b → Finished x g ((run (jobOf x) g b 0 f) .flash) ⊎ FlagMovedOn g f ((run (jobOf x) g b 0 f) .flash)
     moves-untorn b h = by (run (jobOf x) g b 0 f) (walked g G old B b f 0 (suc r) s)
@@ -171,8 +171,8 @@ module _ (check : Check) (g : Geometry) (G : Limits g) (old : Flash) {x : Exchan
             order : Dec (suc r < b) → Finished x g (w .flash) ⊎ FlagMovedOn g f (w .flash)
             order (yes l) =
                 let e : suc r - w .count ≡ 0 = omega (arith, v .counted) in
-                inl (end-of g old B (w .flash) (w .place) (subst (λ (n : ℕ). Stage (Decides check g B) g old B (w .flash) (w .place) n) e (v .stage)))
-            order (no l) = moved-on g old B f (w .flash) (w .place) (suc r) (w .count) (omega (arith, v .counted)) (omega (arith, v .counted)) s (v .stage)
+                inl (end-of g old B (w .flash) (w .phase) (subst (λ (n : ℕ). Stage (Decides check g B) g old B (w .flash) (w .phase) n) e (v .stage)))
+            order (no l) = moved-on g old B f (w .flash) (w .phase) (suc r) (w .count) (omega (arith, v .counted)) (omega (arith, v .counted)) s (v .stage)
 
     right-untorn : (b : ℕ) → Played f (suc r) (untorn g b)
     unfolding left

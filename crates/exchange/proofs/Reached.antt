@@ -4,17 +4,17 @@ use mathlib.Core.List.{List, [], _∷_}
 use Prim.Native.Nat.{ℕ, zero, suc, _+_, _-_, _*_, _≤_}
 use native.Mathlib.Omega.{arith}
 use lib.ListN.{length}
-use Rattle.refusals.specs.Answer.{gives}
+use Rattle.numbers.specs.Answer.{gives}
 use Rattle.flash.specs.declared.Geometry.{Geometry}
 use Rattle.flash.specs.Sizes.{geometry, withinLimits, firmware, Limits}
 use Rattle.flash.specs.Sectors.{sectorNumber}
 use Rattle.flash.specs.Buffers.{Flash, flash, partitionFits, fits}
-use Rattle.status.specs.declared.BootStatus.{BootStatus}
-use Rattle.status.specs.declared.UpdateStatus.{UpdateStatus}
-use Rattle.trailer.specs.declared.Leg.the-variants.{UpdateToSwap}
-use Rattle.trailer.specs.declared.Flags.the-variants.{AllF}
-use Rattle.status.specs.StatusBytes.{bootStatusAt, updateStatusAt}
-use Rattle.trailer.specs.SectorFlags.{flagsAt}
+use Rattle.flash_status.specs.declared.BootStatus.{BootStatus}
+use Rattle.flash_status.specs.declared.UpdateStatus.{UpdateStatus}
+use Rattle.flash_flags.specs.declared.Leg.the-variants.{UpdateToSwap}
+use Rattle.flash_flags.specs.declared.Flags.the-variants.{AllF}
+use Rattle.flash_status.specs.StatusBytes.{bootStatusAt, updateStatusAt}
+use Rattle.flash_flags.specs.SectorFlags.{flagsAt}
 use Rattle.exchange.specs.declared.Area.the-variants.{Swap}
 use Rattle.exchange.specs.declared.Operation.the-variants.{Erase, Copy}
 use Rattle.exchange.specs.declared.Next.{Next}
@@ -54,7 +54,7 @@ module _ (check : Check) (g : Geometry) (G : Limits g) (old : Flash) {x : Exchan
       by v =
           let w : Run = run (jobOf x) g budget 0 f in
           let e : suc r - w .count ≡ 0 = omega (arith, v .counted) in
-          end-of g old B (w .flash) (w .place) (subst (λ (n : ℕ). Stage (Decides check g B) g old B (w .flash) (w .place) n) e (v .stage))
+          end-of g old B (w .flash) (w .phase) (subst (λ (n : ℕ). Stage (Decides check g B) g old B (w .flash) (w .phase) n) e (v .stage))
 
   last : (f : Flash) (r budget : ℕ) → Stage (Decides check g B) g old B f 0 r → ¬ Finished x g f → r ≤ budget → Ends f (untorn g budget ∷ [])
   unfolding left
@@ -64,13 +64,13 @@ module _ (check : Check) (g : Geometry) (G : Limits g) (old : Flash) {x : Exchan
   module _ (r : ℕ) (s : Stage (Decides check g B) g old B old 0 (suc r)) (e₁ : bootStatusAt g (old .boot) ≡ gives b₀) (e₂ : updateStatusAt g (old .update) ≡ gives u₀)
       (e₃ : flagsAt g (old .update) ≡ AllF) where
     -- SWAP is erased, and then its copy is torn
-    first-run : run (jobOf x) g 1 0 old ≡ record { count = 1; place = 1; flash = perform g (Erase Swap (sectorNumber 0)) old }
+    first-run : run (jobOf x) g 1 0 old ≡ record { count = 1; phase = 1; flash = perform g (Erase Swap (sectorNumber 0)) old }
     unfolding run
     first-run = run-some (jobOf x) g 0 0 old (Erase Swap (sectorNumber 0)) (next-leg g x b₀ u₀ B 0 0 UpdateToSwap old e₁ e₂ e₃)
 
     copy-next : nextAfter check g old 1 ≡ Do (Copy UpdateToSwap (sectorNumber 0))
     copy-next =
-        next-in check g G old B I old r s 1 ∙ ap (λ (w : Run). nextOperation (jobOf x) g (w .place) (w .flash)) first-run
+        next-in check g G old B I old r s 1 ∙ ap (λ (w : Run). nextOperation (jobOf x) g (w .phase) (w .flash)) first-run
         ∙ next-leg g x b₀ u₀ B 1 0 UpdateToSwap (perform g (Erase Swap (sectorNumber 0)) old) e₁ e₂ e₃
 
     torn-left : (t : Torn) (budget : ℕ) → (left check old (lost g budget 1 t)) .flash ≡ flash (old .boot) (old .update) (t .bytes)
@@ -148,11 +148,11 @@ along-at : (check : Check) (g : Geometry) (G : Limits g) (old : Flash) {x : Exch
     → Walked (Decides check g B) g old B r (3 * a) w → Ongoing check x g old (w .flash) a
 along-at check g G old {x} B o r a w h k v = by (r - w .count) (v .stage) (omega (arith, v .counted))
   where
-    by : (q : ℕ) → Stage (Decides check g B) g old B (w .flash) (w .place) q → q + 3 * a ≡ 9 * firmware g + closingLeft (closing B) → Ongoing check x g old (w .flash) a
+    by : (q : ℕ) → Stage (Decides check g B) g old B (w .flash) (w .phase) q → q + 3 * a ≡ 9 * firmware g + closingLeft (closing B) → Ongoing check x g old (w .flash) a
     by zero y e = absurd (omega (arith, closing-some (closing B)))
     by (suc q) y e = moves-are
         (again check g G old B (o .oldWhole) (o .oldGood) (w .flash) q
-        (subst (λ (n : ℕ). Stage (Decides check g B) g old B (w .flash) n (suc q)) (top-again (Decides check g B) g old B (w .flash) (w .place) a (suc q) e y) y))
+        (subst (λ (n : ℕ). Stage (Decides check g B) g old B (w .flash) n (suc q)) (top-again (Decides check g B) g old B (w .flash) (w .phase) a (suc q) e y) y))
       where
         moves-are : Again check g old B (w .flash) (suc q) → Ongoing check x g old (w .flash) a
         moves-are z =

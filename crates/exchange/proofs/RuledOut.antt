@@ -7,25 +7,25 @@ use Prim.Native.Nat.{ℕ, zero, suc, _≤_}
 use native.Mathlib.Omega.{arith}
 use lib.ListN.{length, take}
 use lib.Dec.{ltb, eqb}
-use Rattle.refusals.specs.Answer.{Answer, gives, refused}
+use Rattle.numbers.specs.Answer.{Answer, gives, refused}
 use Rattle.flash.specs.declared.Geometry.{Geometry}
 use Rattle.flash.specs.declared.SectorNumber.{SectorNumber}
 use Rattle.flash.specs.Sectors.{sectorNumber}
 use Rattle.flash.specs.Buffers.{Flash, Shaped, fits}
-use Rattle.status.specs.declared.BootStatus.{BootStatus}
-use Rattle.status.specs.declared.BootStatus.the-variants.{New as BootNew, Testing, Success}
-use Rattle.status.specs.declared.BootStatusAnswer.{BootStatusAnswer}
-use Rattle.status.specs.declared.BootStatusAnswer.the-variants.{Boot, NotAllowed as BootNotAllowed}
-use Rattle.status.specs.declared.UpdateStatus.{UpdateStatus}
-use Rattle.status.specs.declared.UpdateStatus.the-variants.{New as UpdateNew, Updating}
-use Rattle.status.specs.declared.UpdateStatusAnswer.{UpdateStatusAnswer}
-use Rattle.status.specs.declared.UpdateStatusAnswer.the-variants.{Update as UpdateIs, NotAllowed as UpdateNotAllowed}
-use Rattle.trailer.specs.declared.Leg.{Leg}
-use Rattle.trailer.specs.declared.Leg.the-variants.{UpdateToSwap}
-use Rattle.trailer.specs.declared.Flags.{Flags}
-use Rattle.trailer.specs.declared.Flags.the-variants.{Malformed, AllF, At, All0}
-use Rattle.status.specs.StatusBytes.{statusByte, bootByte, bootStatusAnswer, bootStatusOf, bootStatusAt, updateByte, updateStatusAnswer, updateStatusOf, updateStatusAt}
-use Rattle.trailer.specs.SectorFlags.{flagsAt}
+use Rattle.flash_status.specs.declared.BootStatus.{BootStatus}
+use Rattle.flash_status.specs.declared.BootStatus.the-variants.{New as BootNew, Testing, Success}
+use Rattle.flash_status.specs.declared.BootStatusAnswer.{BootStatusAnswer}
+use Rattle.flash_status.specs.declared.BootStatusAnswer.the-variants.{Boot, NotAllowed as BootNotAllowed}
+use Rattle.flash_status.specs.declared.UpdateStatus.{UpdateStatus}
+use Rattle.flash_status.specs.declared.UpdateStatus.the-variants.{New as UpdateNew, Updating}
+use Rattle.flash_status.specs.declared.UpdateStatusAnswer.{UpdateStatusAnswer}
+use Rattle.flash_status.specs.declared.UpdateStatusAnswer.the-variants.{Update as UpdateIs, NotAllowed as UpdateNotAllowed}
+use Rattle.flash_flags.specs.declared.Leg.{Leg}
+use Rattle.flash_flags.specs.declared.Leg.the-variants.{UpdateToSwap}
+use Rattle.flash_flags.specs.declared.Flags.{Flags}
+use Rattle.flash_flags.specs.declared.Flags.the-variants.{Malformed, AllF, At, All0}
+use Rattle.flash_status.specs.StatusBytes.{statusByte, bootByte, bootStatusAnswer, bootStatusOf, bootStatusAt, updateByte, updateStatusAnswer, updateStatusOf, updateStatusAt}
+use Rattle.flash_flags.specs.SectorFlags.{flagsAt}
 use Rattle.exchange.specs.declared.Operation.{Operation}
 use Rattle.exchange.specs.declared.Operation.the-variants.{Erase, EraseUpdateTrailer}
 use Rattle.exchange.specs.declared.Next.{Next}
@@ -39,7 +39,7 @@ use Rattle.exchange.specs.PowerUp.{Outcome, refusal, runs, PowerUp, ifBo
 use Rattle.exchange.specs.Demand.{Exchange, update, fallback, jobOf, Starts, Underway, from-new, from-success, from-testing}
 use Rattle.exchange.specs.RuledOut.{Reads, IsRun, TurnedDown, BeforeWork, outsideRules, statusNotAllowed, flagsNotWellFormed, noGoodFallback, RefusedBefore, RuledOut}
 use Rattle.flash.proofs.Checked.{shaped-of}
-use Rattle.trailer.proofs.Laws.{update-erased}
+use Rattle.flash_flags.proofs.Laws.{update-erased}
 use Rattle.exchange.proofs.Orders.{next-by-reads, decide-by-reads}
 use Rattle.exchange.proofs.Runs.{run-none, run-some, run-count, run-flash, operations-first, run-within, power-up-works}
 use Rattle.exchange.proofs.Accepted.{Images, Accepted, begun, not-newer, accepted}
@@ -204,7 +204,7 @@ carried-good : (check : Check) (g : Geometry) (f : Flash) (budget : ℕ) (y : Pl
 carried-good check g f budget (refuse n i p) h = absurd h
 carried-good check g f budget plain h = good-runs runs (check g (f .boot)) h
 carried-good check g f budget (work job why) h =
-    let w : Run = run job g budget 0 f in good-after (nextOperation job g (w .place) (w .flash)) job (check g (w .flash .boot)) h
+    let w : Run = run job g budget 0 f in good-after (nextOperation job g (w .phase) (w .flash)) job (check g (w .flash .boot)) h
 
 what-runs : (check : Check) (g : Geometry) (f : Flash) (budget : ℕ) → IsRun ((powerUp check g f budget) .outcome)
     → Good (check g ((powerUp check g f budget) .flash .boot))
@@ -362,9 +362,9 @@ carried-before check g f budget n i p y (refuses n′ i′ p′ (inl w)) e h =
 carried-before check g f budget n i p y (refuses n′ i′ p′ (inr w)) e h = let k : n ≡ 12 = cc in absurd (h k)
 carried-before check g f budget n i p y goes-plain e h = absurd (h (twelve runs (check g (f .boot)) n i p (no-refusal TurnDown) e))
 carried-before check g f budget n i p y (exchanges x) e h =
-    let w : Run = run (jobOf x) g budget 0 f in absurd (h (twelve-after (nextOperation (jobOf x) g (w .place) (w .flash)) (jobOf x) (check g (w .flash .boot)) n i p e))
+    let w : Run = run (jobOf x) g budget 0 f in absurd (h (twelve-after (nextOperation (jobOf x) g (w .phase) (w .flash)) (jobOf x) (check g (w .flash .boot)) n i p e))
 carried-before check g f budget n i p y (turns-down b n′ p′ e₀ e₁ e₂) e h =
-    let w : Run = run TurnDown g budget 0 f in absurd (h (twelve-after (nextOperation TurnDown g (w .place) (w .flash)) TurnDown (check g (w .flash .boot)) n i p e))
+    let w : Run = run TurnDown g budget 0 f in absurd (h (twelve-after (nextOperation TurnDown g (w .phase) (w .flash)) TurnDown (check g (w .flash .boot)) n i p e))
 
 refused-before : (check : Check) (g : Geometry) (f : Flash) (budget n i p : ℕ) → (powerUp check g f budget) .outcome ≡ refusal n i p → n ≢ 12
     → RefusedBefore n f (powerUp check g f budget)

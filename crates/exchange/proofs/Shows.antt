@@ -4,17 +4,17 @@ use mathlib.Core.Logic.{_⊎_, inl, inr}
 use mathlib.Core.List.{List}
 use Prim.Native.Nat.{ℕ, zero, suc, _+_, _-_, _*_, _≤_, _<_, min}
 use native.Mathlib.Omega.{arith}
-use Rattle.refusals.specs.Answer.{gives}
+use Rattle.numbers.specs.Answer.{gives}
 use Rattle.flash.specs.declared.Geometry.{Geometry}
 use Rattle.flash.specs.Sizes.{firmware}
 use Rattle.flash.specs.Buffers.{Flash}
-use Rattle.status.specs.declared.BootStatus.{BootStatus}
-use Rattle.status.specs.declared.UpdateStatus.{UpdateStatus}
-use Rattle.trailer.specs.declared.Flag.the-variants.{Exchanged}
-use Rattle.status.specs.StatusBytes.{bootStatusAt, updateStatusAt}
-use Rattle.trailer.specs.SectorFlags.{moved}
+use Rattle.flash_status.specs.declared.BootStatus.{BootStatus}
+use Rattle.flash_status.specs.declared.UpdateStatus.{UpdateStatus}
+use Rattle.flash_flags.specs.declared.Flag.the-variants.{Exchanged}
+use Rattle.flash_status.specs.StatusBytes.{bootStatusAt, updateStatusAt}
+use Rattle.flash_flags.specs.SectorFlags.{moved}
 use Rattle.exchange.specs.Demand.{Exchange, Underway, from-new, from-success, from-testing, Finished, InPlace, flagRank, FlagMovedOn, FlagNotBack, AtFinish}
-use Rattle.trailer.proofs.Moves.{legMoves, leg-below}
+use Rattle.flash_flags.proofs.Moves.{legMoves, leg-below}
 use Rattle.exchange.proofs.Stage.{Closing, erase-boot, write-testing, erase-update, write-success, closing, closingLeft, Closed, on-test, fallen-back, Swapped, Stage, in-leg, at-last, at-end}
 use Rattle.exchange.proofs.Walked.{closing-some}
 
@@ -67,10 +67,10 @@ module _ {D : List ℕ → List ℕ → Type 0} (g : Geometry) (old : Flash) {x 
   end-of f p (at-last b u c le s e₁ e₂ n z) = absurd (omega (arith, closing-some c))
   end-of f p (at-end b u c y s e₁ e₂ n z) = finished-closed x b u c g f e₁ e₂
 
-  pub end-place : (f : Flash) (p : ℕ) → Stage D g old B f p 0 → p ≡ 0
-  end-place f p (in-leg i leg hi hp s d e₁ e₂ ready n) = absurd (omega (arith, leg-below leg))
-  end-place f p (at-last b u c le s e₁ e₂ n z) = z
-  end-place f p (at-end b u c y s e₁ e₂ n z) = z
+  pub end-phase : (f : Flash) (p : ℕ) → Stage D g old B f p 0 → p ≡ 0
+  end-phase f p (in-leg i leg hi hp s d e₁ e₂ ready n) = absurd (omega (arith, leg-below leg))
+  end-phase f p (at-last b u c le s e₁ e₂ n z) = z
+  end-phase f p (at-end b u c y s e₁ e₂ n z) = z
 
   pub unfinished : (f : Flash) (p r : ℕ) → Stage D g old B f p (suc r) → ¬ Finished x g f
   unfinished f p r (in-leg i leg hi hp s d e₁ e₂ ready n) h = unfinished-begun x b₀ u₀ B g f e₁ e₂ h

@@ -10,22 +10,22 @@ use Rattle.flash.specs.declared.Geometry.{Geometry}
 use Rattle.flash.specs.Sizes.{firmware, Limits}
 use Rattle.flash.specs.Sectors.{sectorNumber, erased}
 use Rattle.flash.specs.Buffers.{Flash, Shaped}
-use Rattle.status.specs.declared.BootStatus.{BootStatus}
-use Rattle.trailer.specs.declared.Flag.{Flag}
-use Rattle.trailer.specs.declared.Flag.the-variants.{Untouched, Exchanged}
-use Rattle.trailer.specs.declared.FlagRead.the-variants.{Known}
-use Rattle.trailer.specs.declared.Leg.{Leg}
-use Rattle.trailer.specs.declared.Leg.the-variants.{UpdateToSwap, BootToUpdate, SwapToBoot}
-use Rattle.status.specs.StatusBytes.{bootByte, bootStatusOf, bootStatusAt, updateStatusOf, updateStatusAt}
-use Rattle.trailer.specs.SectorFlags.{moved, flagAt, setFlag}
+use Rattle.flash_status.specs.declared.BootStatus.{BootStatus}
+use Rattle.flash_flags.specs.declared.Flag.{Flag}
+use Rattle.flash_flags.specs.declared.Flag.the-variants.{Untouched, Exchanged}
+use Rattle.flash_flags.specs.declared.FlagRead.the-variants.{Known}
+use Rattle.flash_flags.specs.declared.Leg.{Leg}
+use Rattle.flash_flags.specs.declared.Leg.the-variants.{UpdateToSwap, BootToUpdate, SwapToBoot}
+use Rattle.flash_status.specs.StatusBytes.{bootByte, bootStatusOf, bootStatusAt, updateStatusOf, updateStatusAt}
+use Rattle.flash_flags.specs.SectorFlags.{moved, flagAt, setFlag}
 use Rattle.exchange.specs.declared.Area.{Area}
 use Rattle.exchange.specs.declared.Area.the-variants.{Boot, Update, Swap}
 use Rattle.exchange.specs.declared.Operation.the-variants.{WriteFlag, EraseBootTrailer, EraseUpdateTrailer, WriteBootStatus}
 use Rattle.exchange.specs.Operations.{get, put, perform, target, source, nextFlag, oldBootIn, oldUpdateIn}
 use Rattle.flash.proofs.Bytes.{length-part}
 use Rattle.flash.proofs.Laws.{length-sector, sector-same, sector-other, length-erased, sector-in}
-use Rattle.trailer.proofs.Laws.{status-sector, flag-sector, length-flag, sector-flag, length-status, sector-status}
-use Rattle.trailer.proofs.Moves.{moved-none, moved-all, legMoves, leg-below, AfterMoves, moves-on}
+use Rattle.flash_flags.proofs.Laws.{status-sector, flag-sector, length-flag, sector-flag, length-status, sector-status}
+use Rattle.flash_flags.proofs.Moves.{moved-none, moved-all, legMoves, leg-below, AfterMoves, moves-on}
 
 -- after a moves: the flags, and each old sector in its place
 pub record Sound (g : Geometry) (old : Flash) (a : ℕ) (f : Flash) : Type 0 where

@@ -6,34 +6,34 @@ use Prim.Native.Nat.{ℕ, zero, suc, _+_, _*_, _≤_, _<_}
 use native.Mathlib.Decide.{decLt}
 use native.Mathlib.Omega.{arith}
 use lib.ListN.{length}
-use Rattle.refusals.specs.Answer.{gives}
+use Rattle.numbers.specs.Answer.{gives}
 use Rattle.flash.specs.declared.Geometry.{Geometry}
 use Rattle.flash.specs.Sizes.{firmware, Limits}
 use Rattle.flash.specs.Sectors.{sectorNumber, erased}
 use Rattle.flash.specs.Buffers.{Flash, Shaped}
-use Rattle.status.specs.declared.BootStatus.{BootStatus}
-use Rattle.status.specs.declared.BootStatus.the-variants.{New as BootNew, Testing, Success}
-use Rattle.status.specs.declared.UpdateStatus.{UpdateStatus}
-use Rattle.status.specs.declared.UpdateStatus.the-variants.{New as UpdateNew, Updating}
-use Rattle.trailer.specs.declared.Leg.{Leg}
-use Rattle.trailer.specs.declared.Leg.the-variants.{UpdateToSwap, BootToUpdate, SwapToBoot}
-use Rattle.trailer.specs.declared.Flags.the-variants.{All0}
-use Rattle.status.specs.StatusBytes.{bootStatusAt, updateStatusOf, updateStatusAt}
-use Rattle.trailer.specs.SectorFlags.{flagsAt}
+use Rattle.flash_status.specs.declared.BootStatus.{BootStatus}
+use Rattle.flash_status.specs.declared.BootStatus.the-variants.{New as BootNew, Testing, Success}
+use Rattle.flash_status.specs.declared.UpdateStatus.{UpdateStatus}
+use Rattle.flash_status.specs.declared.UpdateStatus.the-variants.{New as UpdateNew, Updating}
+use Rattle.flash_flags.specs.declared.Leg.{Leg}
+use Rattle.flash_flags.specs.declared.Leg.the-variants.{UpdateToSwap, BootToUpdate, SwapToBoot}
+use Rattle.flash_flags.specs.declared.Flags.the-variants.{All0}
+use Rattle.flash_status.specs.StatusBytes.{bootStatusAt, updateStatusOf, updateStatusAt}
+use Rattle.flash_flags.specs.SectorFlags.{flagsAt}
 use Rattle.exchange.specs.declared.Area.the-variants.{Boot, Update as UpdateArea}
 use Rattle.exchange.specs.declared.Operation.{Operation}
 use Rattle.exchange.specs.declared.Operation.the-variants.{Erase, Copy, WriteFlag, EraseBootTrailer, EraseUpdateTrailer, WriteBootStatus}
 use Rattle.exchange.specs.declared.Next.the-variants.{Do, Nothing}
 use Rattle.exchange.specs.declared.Job.the-variants.{Update, Fallback}
-use Rattle.exchange.specs.Operations.{get, put, perform, target, source, nextFlag, legOperation, placeAfter}
+use Rattle.exchange.specs.Operations.{get, put, perform, target, source, nextFlag, legOperation, phaseAfter}
 use Rattle.exchange.specs.Order.{exchangeNext, nextOperation}
 use Rattle.exchange.specs.LostPower.{Torn, performTorn}
 use Rattle.exchange.specs.Demand.{Exchange, update, fallback, jobOf, LastBytes, flagsAtFinish, Underway, from-new, from-success, from-testing}
 use Rattle.flash.proofs.Checked.{some-firmware}
 use Rattle.flash.proofs.Laws.{length-erased, sector-same}
-use Rattle.trailer.proofs.Laws.{boot-erased, update-erased, flags-erased, boot-written, status-flag}
-use Rattle.trailer.proofs.Shown.{shown-all-0}
-use Rattle.trailer.proofs.Moves.{legMoves, atLeg, shown-leg}
+use Rattle.flash_flags.proofs.Laws.{boot-erased, update-erased, flags-erased, boot-written, status-flag}
+use Rattle.flash_flags.proofs.Shown.{shown-all-0}
+use Rattle.flash_flags.proofs.Moves.{legMoves, atLeg, shown-leg}
 use Rattle.exchange.proofs.Orders.{next-by-reads}
 use Rattle.exchange.proofs.Sound.{Sound, Crossed, Ready, put-shaped, put-boot-status, put-update-status, scratch, length-source, copied, advance, crossed, boot-trailer, boot-status, update-trailer}
 
@@ -72,7 +72,7 @@ pub record Swapped (x : Exchange) (g : Geometry) (old f : Flash) : Type 0 where
   pub lastBytes : LastBytes x g f
   pub flags : flagsAt g (f .update) ≡ flagsAtFinish x
 
--- at the place p of a leg, with r operations left. D is what else holds of BOOT's and UPDATE's bytes while no flag has moved.
+-- at the phase p of a leg, with r operations left. D is what else holds of BOOT's and UPDATE's bytes while no flag has moved.
 pub data Stage (D : List ℕ → List ℕ → Type 0) (g : Geometry) (old : Flash) {x : Exchange} {b₀ : BootStatus} {u₀ : UpdateStatus} (B : Underway x b₀ u₀) (f : Flash) (p r : ℕ) : Type 0 where
   in-leg : (i : ℕ) (leg : Leg) → i < firmware g → p < 3 → Sound g old (3 * i + legMoves leg) f → (3 * i + legMoves leg ≡ 0 → D (f .boot) (f .update))
       → bootStatusAt g (f .boot) ≡ gives b₀ → updateStatusAt g (f .update) ≡ gives u₀ → (p ≡ 2 → Ready g leg i f)
@@ -83,7 +83,7 @@ pub data Stage (D : List ℕ → List ℕ → Type 0) (g : Geometry) (old : Flas
       → bootStatusAt g (f .boot) ≡ gives b → updateStatusAt g (f .update) ≡ gives u → r ≡ 0 → p ≡ 0 → Stage D g old B f p r
 
 pub data Stepped (D : List ℕ → List ℕ → Type 0) (g : Geometry) (old : Flash) {x : Exchange} {b₀ : BootStatus} {u₀ : UpdateStatus} (B : Underway x b₀ u₀) (f : Flash) (p r : ℕ) : Type 0 where
-  stepped : (o : Operation) → nextOperation (jobOf x) g p f ≡ Do o → Stage D g old B (perform g o f) (placeAfter o) r
+  stepped : (o : Operation) → nextOperation (jobOf x) g p f ≡ Do o → Stage D g old B (perform g o f) (phaseAfter o) r
       → ((t : Torn) → length (t .bytes) ≡ g .size → (q : ℕ) × (q ≤ suc r + p) × Stage D g old B (performTorn g t o f) 0 q)
       → Stepped D g old B f p r
 

@@ -6,29 +6,29 @@ use Prim.Native.Nat.{ℕ, zero, suc, _+_, _-_, _*_, _/_, _%_, _≤_, _<_}
 use native.Mathlib.Decide.{decLt}
 use native.Mathlib.Omega.{arith}
 use lib.ListN.{length}
-use Rattle.refusals.specs.Answer.{gives}
+use Rattle.numbers.specs.Answer.{gives}
 use Rattle.flash.specs.declared.Geometry.{Geometry}
 use Rattle.flash.specs.Sizes.{firmware, partitionSize, Limits}
 use Rattle.flash.specs.Buffers.{Flash, Shaped, fits}
-use Rattle.status.specs.declared.BootStatus.{BootStatus}
-use Rattle.status.specs.declared.BootStatus.the-variants.{Testing}
-use Rattle.status.specs.declared.UpdateStatus.{UpdateStatus}
-use Rattle.status.specs.declared.UpdateStatus.the-variants.{Updating}
-use Rattle.trailer.specs.declared.Flag.{Flag}
-use Rattle.trailer.specs.declared.Flag.the-variants.{Untouched, Exchanged}
-use Rattle.trailer.specs.declared.FlagRead.the-variants.{Known}
-use Rattle.trailer.specs.declared.Leg.{Leg}
-use Rattle.trailer.specs.declared.Leg.the-variants.{UpdateToSwap, BootToUpdate, SwapToBoot}
-use Rattle.trailer.specs.declared.Flags.the-variants.{AllF}
-use Rattle.status.specs.StatusBytes.{bootStatusAt, updateStatusAt}
-use Rattle.trailer.specs.SectorFlags.{moved, flagsAt}
+use Rattle.flash_status.specs.declared.BootStatus.{BootStatus}
+use Rattle.flash_status.specs.declared.BootStatus.the-variants.{Testing}
+use Rattle.flash_status.specs.declared.UpdateStatus.{UpdateStatus}
+use Rattle.flash_status.specs.declared.UpdateStatus.the-variants.{Updating}
+use Rattle.flash_flags.specs.declared.Flag.{Flag}
+use Rattle.flash_flags.specs.declared.Flag.the-variants.{Untouched, Exchanged}
+use Rattle.flash_flags.specs.declared.FlagRead.the-variants.{Known}
+use Rattle.flash_flags.specs.declared.Leg.{Leg}
+use Rattle.flash_flags.specs.declared.Leg.the-variants.{UpdateToSwap, BootToUpdate, SwapToBoot}
+use Rattle.flash_flags.specs.declared.Flags.the-variants.{AllF}
+use Rattle.flash_status.specs.StatusBytes.{bootStatusAt, updateStatusAt}
+use Rattle.flash_flags.specs.SectorFlags.{moved, flagsAt}
 use Rattle.exchange.specs.declared.Area.{Area}
 use Rattle.exchange.specs.Operations.{get, oldBootIn, oldUpdateIn}
 use Rattle.exchange.specs.Decision.{Check, Good, noReason, work, decide}
 use Rattle.exchange.specs.PowerUp.{Outcome, refusal, cut, runs, runsOnTest, runsFallenBack, powerUp}
 use Rattle.exchange.specs.Demand.{Exchange, jobOf, Underway, from-new, from-success, from-testing, StatusesAt, inLegs, atClose, Finished, Stands, Starts, Ongoing, untorn, lost, Event, isCut, left, flashLeft, EndsAsAllowed, Allowed, flashAfter, EachSafe, most, Safe, Demand3Ongoing, Demand3}
 use Rattle.flash.proofs.Checked.{shaped-of, shaped-fits}
-use Rattle.trailer.proofs.Moves.{moved-none, legMoves, leg-below, AfterMoves, shown-none, moves-none}
+use Rattle.flash_flags.proofs.Moves.{moved-none, legMoves, leg-below, AfterMoves, shown-none, moves-none}
 use Rattle.exchange.proofs.Orders.{decide-by-reads}
 use Rattle.exchange.proofs.Along.{Pays, along}
 use Rattle.exchange.proofs.Accepted.{update-good, Accepted, accepted}

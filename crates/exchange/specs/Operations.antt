@@ -6,12 +6,12 @@ use Rattle.flash.specs.declared.SectorNumber.{SectorNumber}
 use Rattle.flash.specs.Sizes.{firmware}
 use Rattle.flash.specs.Sectors.{sectorOf, writeSector, erased}
 use Rattle.flash.specs.Buffers.{Flash, flash}
-use Rattle.trailer.specs.declared.Flag.{Flag}
-use Rattle.trailer.specs.declared.Flag.the-variants.{Untouched, Saved, Moved, Exchanged}
-use Rattle.trailer.specs.declared.Leg.{Leg}
-use Rattle.trailer.specs.declared.Leg.the-variants.{UpdateToSwap, BootToUpdate, SwapToBoot}
-use Rattle.status.specs.StatusBytes.{setBootStatus, setUpdateStatus}
-use Rattle.trailer.specs.SectorFlags.{setFlag}
+use Rattle.flash_flags.specs.declared.Flag.{Flag}
+use Rattle.flash_flags.specs.declared.Flag.the-variants.{Untouched, Saved, Moved, Exchanged}
+use Rattle.flash_flags.specs.declared.Leg.{Leg}
+use Rattle.flash_flags.specs.declared.Leg.the-variants.{UpdateToSwap, BootToUpdate, SwapToBoot}
+use Rattle.flash_status.specs.StatusBytes.{setBootStatus, setUpdateStatus}
+use Rattle.flash_flags.specs.SectorFlags.{setFlag}
 use Rattle.exchange.specs.declared.Area.{Area}
 use Rattle.exchange.specs.declared.Area.the-variants.{Boot, Update, Swap}
 use Rattle.exchange.specs.declared.Operation.{Operation}
@@ -45,20 +45,20 @@ nextFlag UpdateToSwap = Saved
 nextFlag BootToUpdate = Moved
 nextFlag SwapToBoot = Exchanged
 
--- The operation at place 0, 1 or 2 of a leg of sector i, and the place after an operation.
+-- The operation at phase 0, 1 or 2 of a leg of sector i (the phase is ours: how far a leg has come), and the phase after an operation.
 abbrev pub legOperation : Leg → ℕ → SectorNumber → Operation
 legOperation leg zero i = Erase (target leg) i
 legOperation leg (suc zero) i = Copy leg i
 legOperation leg (suc (suc p)) i = WriteFlag i (nextFlag leg)
 
-abbrev pub placeAfter : Operation → ℕ
-placeAfter (Erase a i) = 1
-placeAfter (Copy leg i) = 2
-placeAfter (WriteFlag i v) = 0
-placeAfter EraseBootTrailer = 0
-placeAfter EraseUpdateTrailer = 0
-placeAfter (WriteBootStatus v) = 0
-placeAfter (WriteUpdateStatus v) = 0
+abbrev pub phaseAfter : Operation → ℕ
+phaseAfter (Erase a i) = 1
+phaseAfter (Copy leg i) = 2
+phaseAfter (WriteFlag i v) = 0
+phaseAfter EraseBootTrailer = 0
+phaseAfter EraseUpdateTrailer = 0
+phaseAfter (WriteBootStatus v) = 0
+phaseAfter (WriteUpdateStatus v) = 0
 
 -- The table of places: by a sector's flag, where its old BOOT and its old UPDATE sector stand.
 abbrev pub oldBootIn : Flag → Area

@@ -1,26 +1,26 @@
 -- Document 01, "Power-up": the one operation that is next, found by reading the status bytes and the flags.
 use mathlib.Core.List.{List, [], _∷_}
 use Prim.Native.Nat.{ℕ, zero, suc}
-use Rattle.refusals.specs.Answer.{Answer, gives, refused}
+use Rattle.numbers.specs.Answer.{Answer, gives, refused}
 use Rattle.flash.specs.declared.Geometry.{Geometry}
 use Rattle.flash.specs.Sectors.{sectorNumber}
 use Rattle.flash.specs.Buffers.{Flash}
-use Rattle.status.specs.declared.BootStatus.{BootStatus}
-use Rattle.status.specs.declared.BootStatus.the-variants.{New as BootNew, Testing, Success}
-use Rattle.status.specs.declared.UpdateStatus.{UpdateStatus}
-use Rattle.status.specs.declared.UpdateStatus.the-variants.{New as UpdateNew, Updating}
-use Rattle.trailer.specs.declared.Flags.{Flags}
-use Rattle.trailer.specs.declared.Flags.the-variants.{Malformed, AllF, At, All0}
-use Rattle.trailer.specs.declared.Leg.the-variants.{UpdateToSwap}
-use Rattle.status.specs.StatusBytes.{bootStatusAt, updateStatusAt}
-use Rattle.trailer.specs.SectorFlags.{flagsAt}
+use Rattle.flash_status.specs.declared.BootStatus.{BootStatus}
+use Rattle.flash_status.specs.declared.BootStatus.the-variants.{New as BootNew, Testing, Success}
+use Rattle.flash_status.specs.declared.UpdateStatus.{UpdateStatus}
+use Rattle.flash_status.specs.declared.UpdateStatus.the-variants.{New as UpdateNew, Updating}
+use Rattle.flash_flags.specs.declared.Flags.{Flags}
+use Rattle.flash_flags.specs.declared.Flags.the-variants.{Malformed, AllF, At, All0}
+use Rattle.flash_flags.specs.declared.Leg.the-variants.{UpdateToSwap}
+use Rattle.flash_status.specs.StatusBytes.{bootStatusAt, updateStatusAt}
+use Rattle.flash_flags.specs.SectorFlags.{flagsAt}
 use Rattle.exchange.specs.declared.Operation.{Operation}
 use Rattle.exchange.specs.declared.Operation.the-variants.{EraseBootTrailer, EraseUpdateTrailer, WriteBootStatus}
 use Rattle.exchange.specs.declared.Next.{Next}
 use Rattle.exchange.specs.declared.Next.the-variants.{Do, Nothing}
 use Rattle.exchange.specs.declared.Job.{Job}
 use Rattle.exchange.specs.declared.Job.the-variants.{Update, Fallback, TurnDown}
-use Rattle.exchange.specs.Operations.{legOperation, placeAfter, perform}
+use Rattle.exchange.specs.Operations.{legOperation, phaseAfter, perform}
 
 -- When all flags of an update are 0: what BOOT's status shows as done is not repeated.
 abbrev pub closing : BootStatus → Operation
@@ -28,7 +28,7 @@ closing Success = EraseBootTrailer
 closing BootNew = WriteBootStatus Testing
 closing Testing = EraseUpdateTrailer
 
--- The leg of the first sector whose flag is not 0, at a place (0, 1, 2) within the leg; `last` when all flags are 0.
+-- The leg of the first sector whose flag is not 0, at a phase (0, 1, 2) of the leg; `last` when all flags are 0.
 abbrev pub exchangeNext : ℕ → Flags → Operation → Next
 exchangeNext p AllF last = Do (legOperation UpdateToSwap p (sectorNumber 0))
 exchangeNext p (At i leg) last = Do (legOperation leg p i)
@@ -51,7 +51,7 @@ orderedBy job p (gives b) (gives u) flags = ordered job p b u flags
 orderedBy job p (gives b) (refused n q) flags = Nothing
 orderedBy job p (refused n q) u flags = Nothing
 
--- The next operation, by the bytes alone: nothing is remembered but the place within the leg.
+-- The next operation, by the bytes alone: nothing is remembered but the phase of the leg.
 unfoldable pub nextOperation : Job → Geometry → ℕ → Flash → Next
 nextOperation job g p f = orderedBy job p (bootStatusAt g (f .boot)) (updateStatusAt g (f .update)) (flagsAt g (f .update))
 
@@ -67,26 +67,26 @@ performNext g (Do o) f = perform g o f
 unfoldable pub step : Job → Geometry → ℕ → Flash → Step
 step job g p f = record { next = nextOperation job g p f; flash = performNext g (nextOperation job g p f) f }
 
--- The step repeated, at most k times, from a place within a leg, until it finds nothing to do: how many operations were done, the
--- place and the flash after them.
+-- The step repeated, at most k times, from a phase of a leg, until it finds nothing to do: how many operations were done, the
+-- phase and the flash after them.
 pub record Run : Type 0 where
   pub count : ℕ
-  pub place : ℕ
+  pub phase : ℕ
   pub flash : Flash
 
 abbrev pub stopped : ℕ → Flash → Run
-stopped p f = record { count = 0; place = p; flash = f }
+stopped p f = record { count = 0; phase = p; flash = f }
 
 abbrev pub oneMore : Run → Run
-oneMore r = record { count = suc (r .count); place = r .place; flash = r .flash }
+oneMore r = record { count = suc (r .count); phase = r .phase; flash = r .flash }
 
 unfoldable pub run : Job → Geometry → ℕ → ℕ → Flash → Run
 run job g zero p f = stopped p f
 run job g (suc k) p f =
-    let s : Step = step job g p f in elim (s .next) [ Nothing ↦ stopped p f | Do o ↦ oneMore (run job g k (placeAfter o) (s .flash)) ]
+    let s : Step = step job g p f in elim (s .next) [ Nothing ↦ stopped p f | Do o ↦ oneMore (run job g k (phaseAfter o) (s .flash)) ]
 
 -- The operations that such a run does, in their order.
 unfoldable pub operations : Job → Geometry → ℕ → ℕ → Flash → List Operation
 operations job g zero p f = []
 operations job g (suc k) p f =
-    let s : Step = step job g p f in elim (s .next) [ Nothing ↦ [] | Do o ↦ o ∷ operations job g k (placeAfter o) (s .flash) ]
+    let s : Step = step job g p f in elim (s .next) [ Nothing ↦ [] | Do o ↦ o ∷ operations job g k (phaseAfter o) (s .flash) ]

@@ -1,7 +1,7 @@
 -- Document 01, "Power-up": the call with a budget, made only of repeating the single step.
 use mathlib.Core.List.{List, []}
 use Prim.Native.Nat.{ℕ}
-use Rattle.refusals.specs.Answer.{Answer, gives, refused}
+use Rattle.numbers.specs.Answer.{Answer, gives, refused}
 use Rattle.flash.specs.declared.Geometry.{Geometry}
 use Rattle.flash.specs.Buffers.{Flash}
 use Rattle.exchange.specs.declared.Operation.{Operation}
@@ -47,7 +47,7 @@ outcomeBy Nothing job boot = ifBootGood (doneOutcome job) boot
 abbrev pub worked : Check → Geometry → Job → Reason → Run → PowerUp
 worked check g job reason r =
     record {
-      outcome = outcomeBy (nextOperation job g (r .place) (r .flash)) job (check g (r .flash .boot));
+      outcome = outcomeBy (nextOperation job g (r .phase) (r .flash)) job (check g (r .flash .boot));
       reason = reason;
       count = r .count;
       flash = r .flash;
@@ -57,7 +57,7 @@ worked check g job reason r =
 abbrev pub idle : Outcome → Flash → PowerUp
 idle o f = record { outcome = o; reason = noReason; count = 0; flash = f }
 
--- Work begins at place 0, the top of a leg, in every call.
+-- Work begins at phase 0, the top of a leg, in every call.
 abbrev pub carryOut : Check → Geometry → Flash → ℕ → Plan → PowerUp
 carryOut check g f budget (refuse n i p) = idle (refusal n i p) f
 carryOut check g f budget plain = idle (ifBootGood runs (check g (f .boot))) f
@@ -80,7 +80,7 @@ operationsOf check g f budget = operationsIn g f budget (decide check g f)
 abbrev pub nextIn : Geometry → Flash → ℕ → Plan → Next
 nextIn g f k (refuse n i p) = Nothing
 nextIn g f k plain = Nothing
-nextIn g f k (work job reason) = nextOperation job g ((run job g k 0 f) .place) ((run job g k 0 f) .flash)
+nextIn g f k (work job reason) = nextOperation job g ((run job g k 0 f) .phase) ((run job g k 0 f) .flash)
 
 unfoldable pub nextAfter : Check → Geometry → Flash → ℕ → Next
 nextAfter check g f k = nextIn g f k (decide check g f)

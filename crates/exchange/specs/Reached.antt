@@ -8,7 +8,7 @@ use Rattle.flash.specs.declared.Geometry.{Geometry}
 use Rattle.flash.specs.Sizes.{geometry, firmware}
 use Rattle.flash.specs.Sectors.{sectorNumber}
 use Rattle.flash.specs.Buffers.{Flash}
-use Rattle.trailer.specs.declared.Leg.the-variants.{UpdateToSwap}
+use Rattle.flash_flags.specs.declared.Leg.the-variants.{UpdateToSwap}
 use Rattle.exchange.specs.declared.Operation.the-variants.{Copy}
 use Rattle.exchange.specs.declared.Next.the-variants.{Do}
 use Rattle.exchange.specs.Decision.{Check}

@@ -1,9 +1,9 @@
 // The exchange of BOOT and UPDATE: its single operations, its jobs, and in specs/ the rules of document 01 that order them.
 use flash::SectorNumber;
-use status::BootStatus;
-use status::UpdateStatus;
-use trailer::Flag;
-use trailer::Leg;
+use flash_flags::Flag;
+use flash_flags::Leg;
+use flash_status::BootStatus;
+use flash_status::UpdateStatus;
 
 // The three lent buffers.
 pub enum Area {

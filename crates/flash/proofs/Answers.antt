@@ -7,7 +7,7 @@ use Prim.Native.Nat.{ℕ}
 use native.Mathlib.Omega.{arith}
 use lib.ListN.{length}
 use borrow.Author.Tests.{eq-eqb, ne-eqb}
-use Rattle.refusals.specs.Answer.{gives}
+use Rattle.numbers.specs.Answer.{gives}
 use Rattle.flash.specs.declared.Geometry.{Geometry}
 use Rattle.flash.specs.declared.GeometryAnswer.the-variants.{Outside}
 use Rattle.flash.specs.Sizes.{geometry, partitionSize, withinLimits, Limits, geometryAnswer, geometryWhere, geometryOf}

@@ -5,7 +5,7 @@ use mathlib.Core.List.{List}
 use Prim.Native.Nat.{ℕ}
 use lib.ListN.{length}
 use lib.Dec.{eqb}
-use Rattle.refusals.specs.Answer.{Answer}
+use Rattle.numbers.specs.Answer.{Answer}
 use Rattle.flash.specs.declared.Geometry.{Geometry}
 use Rattle.flash.specs.Sizes.{geometry, partitionSize, withinLimits, Limits, geometryWhere}
 

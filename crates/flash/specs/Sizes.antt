@@ -3,7 +3,7 @@ use mathlib.Core.Path.{_≡_}
 use mathlib.Core.Bool.{Bool, cond, _&&_}
 use Prim.Native.Nat.{ℕ, _+_, _-_, _*_, _/_, _%_, _≤_}
 use lib.Dec.{leb, eqb}
-use Rattle.refusals.specs.Answer.{Answer, gives, refused}
+use Rattle.numbers.specs.Answer.{Answer, gives, refused}
 use Rattle.flash.specs.declared.Geometry.{Geometry}
 use Rattle.flash.specs.declared.GeometryAnswer.{GeometryAnswer}
 use Rattle.flash.specs.declared.GeometryAnswer.the-variants.{Fits, Outside}

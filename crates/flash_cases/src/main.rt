@@ -1,14 +1,14 @@
 // Prints what the flash answers in document 01's marked cases 11 and 12 and around them, and what flag bytes show.
 use flash::Geometry;
 use flash::GeometryAnswer;
+use flash_flags::Flags;
+use flash_flags::Leg;
+use flash_sectors::CopyAnswer;
+use flash_status::BootStatus;
+use flash_status::BootStatusAnswer;
+use flash_status::UpdateStatus;
+use flash_status::UpdateStatusAnswer;
 use libc::STDOUT_FILENO;
-use sectors::CopyAnswer;
-use status::BootStatus;
-use status::BootStatusAnswer;
-use status::UpdateStatus;
-use status::UpdateStatusAnswer;
-use trailer::Flags;
-use trailer::Leg;
 
 fn print(text: &[u8]) {
     io::write_all(STDOUT_FILENO, text);
@@ -124,14 +124,14 @@ fn print_update(answer: UpdateStatusAnswer) {
 // The status of a partition of two sectors of 256 bytes.
 fn boot_status(boot: &[u8]) {
     match flash::check_partition(2, 256, boot) {
-        GeometryAnswer::Fits(g) => print_boot(status::read_boot_status(g, boot)),
+        GeometryAnswer::Fits(g) => print_boot(flash_status::read_boot_status(g, boot)),
         GeometryAnswer::Outside => print(b": refused 1 at 0\n"),
     }
 }
 
 fn update_status(update: &[u8]) {
     match flash::check_partition(2, 256, update) {
-        GeometryAnswer::Fits(g) => print_update(status::read_update_status(g, update)),
+        GeometryAnswer::Fits(g) => print_update(flash_status::read_update_status(g, update)),
         GeometryAnswer::Outside => print(b": refused 1 at 0\n"),
     }
 }
@@ -173,7 +173,7 @@ fn print_flags(flags: Flags) {
 // The flags of a partition of n sectors of 256 bytes.
 fn flags(n: usize, update: &[u8]) {
     match flash::check_partition(n, 256, update) {
-        GeometryAnswer::Fits(g) => print_flags(trailer::read_flags(g, update)),
+        GeometryAnswer::Fits(g) => print_flags(flash_flags::read_flags(g, update)),
         GeometryAnswer::Outside => print(b": refused 1 at 0\n"),
     }
 }
@@ -197,7 +197,7 @@ fn one_flag(byte: u8) {
 fn copy(target: &mut [u8], source: &[u8]) {
     print_number(b"copy ", source.len());
     print_number(b" over ", target.len());
-    match sectors::copy(target, source) {
+    match flash_sectors::copy(target, source) {
         CopyAnswer::Done => print(b": done\n"),
         CopyAnswer::Unequal => print(b": refused 1 at 0\n"),
     }

@@ -8,11 +8,11 @@ use lib.Seq.{take-at}
 use borrow.Author.Tests.{lt-ltb, le-ltb, eq-eqb, ne-eqb}
 use Rattle.output.specs.Puts.{Puts}
 use Rattle.output.proofs.Laws.{puts-then, puts-none, puts-as, puts-whole}
-use Rattle.refusals.specs.Answer.{gives, refused}
+use Rattle.numbers.specs.Answer.{gives, refused}
 use mathlib.Core.Bool.{Bool, true, false}
-use Rattle.tags.specs.Bytes.{littleEndian, tagBytes, fieldBytes}
-use Rattle.tags.proofs.Found.{field-append}
-use Rattle.header.specs.declared.Header.{Header}
+use Rattle.header_tags.specs.Bytes.{littleEndian, tagBytes, fieldBytes}
+use Rattle.header_tags.proofs.Found.{field-append}
+use Rattle.header_reader.specs.declared.Header.{Header}
 use Rattle.header_writer.specs.Writing.{front, requiredFields, hintFields, ending, headerBytes, write, writeHeader}
 
 -- a tag, in three parts

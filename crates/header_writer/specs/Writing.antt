@@ -5,10 +5,10 @@ use mathlib.Core.List.{List, [], _∷_, _++_}
 use mathlib.Core.Bool.{Bool, true, false, cond}
 use lib.Dec.{ltb, eqb}
 use lib.ListN.{length, drop, replicate}
-use Rattle.refusals.specs.Answer.{Answer, gives, refused}
-use Rattle.tags.specs.Bytes.{littleEndian, Field, fieldBytes}
-use Rattle.header.specs.declared.Header.{Header}
-use Rattle.header.specs.Reading.{magic}
+use Rattle.numbers.specs.Answer.{Answer, gives, refused}
+use Rattle.header_tags.specs.Bytes.{littleEndian, Field, fieldBytes}
+use Rattle.header_reader.specs.declared.Header.{Header}
+use Rattle.header_reader.specs.Reading.{magic}
 use Rattle.header_writer.specs.declared.WriteOutcome.{WriteOutcome}
 use Rattle.header_writer.specs.declared.WriteOutcome.the-variants.{Written, TooShort, ZeroSize}
 

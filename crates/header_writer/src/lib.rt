@@ -1,11 +1,11 @@
 // The writer of a rustBoot header.
-use header::Header;
+use header_reader::Header;
 use output::put;
 ghost use mathlib.Core.Path.{_≡_};
 ghost use Prim.Native.Nat.{_+_, _≤_, _<_};
 ghost use mathlib.Core.List.{_++_};
 ghost use lib.ListN.{length};
-ghost use Rattle.tags.specs.Bytes.{littleEndian, tagBytes, fieldBytes};
+ghost use Rattle.header_tags.specs.Bytes.{littleEndian, tagBytes, fieldBytes};
 ghost use Rattle.header_writer.specs.Writing.{front, requiredFields, hintFields, ending, answerOf, write, writeHeader};
 ghost use Rattle.output.specs.Puts.{Puts};
 
@@ -109,16 +109,16 @@ fn put_end(out: &mut [u8], at: usize) -> usize
     ensures { λ r. ⌜ Puts (now (out .entry)) (now (out .exit)) at (ending at) r ⌝ }
 {
     let end = [0u8; 2];
-    let padding = [0xFFu8; tags::HEADER_LENGTH];
+    let padding = [0xFFu8; header_tags::HEADER_LENGTH];
     let behind = put(out, at, &end);
-    put(out, behind, &padding[..tags::HEADER_LENGTH - behind])
+    put(out, behind, &padding[..header_tags::HEADER_LENGTH - behind])
 }
 
 // Writes a header into the first 256 bytes of a lent output, and no other. A refusal changes no byte.
 pub fn write_header(out: &mut [u8], v: Header) -> WriteOutcome
     ensures { λ r. ⌜ write (answerOf r) (now (out .exit)) ≡ writeHeader v (now (out .entry)) ⌝ }
 {
-    if out.len() < tags::HEADER_LENGTH {
+    if out.len() < header_tags::HEADER_LENGTH {
         return WriteOutcome::TooShort;
     }
     let size = v.size;

@@ -6,9 +6,9 @@ use mathlib.Core.List.{List, [], _∷_}
 use native.Mathlib.Omega.{arith}
 use lib.Dec.{eqb}
 use borrow.Author.Tests.{eq-eqb, eqb-true}
-use Rattle.refusals.specs.Answer.{Answer, gives, refused, then}
-use Rattle.header.specs.declared.Header.{Header}
-use Rattle.header.specs.Reading.{blank, valuesOf}
+use Rattle.numbers.specs.Answer.{Answer, gives, refused, then}
+use Rattle.header_reader.specs.declared.Header.{Header}
+use Rattle.header_reader.specs.Reading.{blank, valuesOf}
 use Rattle.flash.specs.declared.Geometry.{Geometry}
 use Rattle.flash.specs.Sectors.{firmwareOf}
 use Rattle.flash.specs.Buffers.{partitionOf}

@@ -7,20 +7,20 @@ use native.Mathlib.Omega.{arith}
 use lib.Dec.{ltb}
 use lib.ListN.{length, getD, take, drop}
 use borrow.Author.Tests.{lt-ltb, le-ltb}
-use Rattle.refusals.specs.Answer.{Answer, gives, refused, then}
-use Rattle.tags.proofs.Laws.{refused-gives}
-use Rattle.fips180.specs.Sha256.{sha256}
+use Rattle.numbers.specs.Answer.{Answer, gives, refused, then}
+use Rattle.header_tags.proofs.Laws.{refused-gives}
+use Rattle.digest_fips180.specs.Sha256.{sha256}
 use Rattle.flash.specs.declared.Geometry.{Geometry}
 use Rattle.flash.specs.Sectors.{firmwareOf}
-use Rattle.places.specs.declared.HeaderOutcome.the-variants.{Accepted, WrongSize}
-use Rattle.places.specs.declared.Places.{Places}
-use Rattle.places.specs.Judging as header
-use Rattle.places.specs.Judging.{Finds}
-use Rattle.places.proofs.Refusals.{refusing}
-use Rattle.header.specs.declared.Header.{Header}
-use Rattle.header.specs.declared.HeaderAnswer.{HeaderAnswer}
-use Rattle.header.specs.Reading.{part, tagPlaces, readHeader, blank, valuesOf, Reads}
-use Rattle.header.proofs.Answers.{by-places, given}
+use Rattle.header_places.specs.declared.HeaderOutcome.the-variants.{Accepted, WrongSize}
+use Rattle.header_places.specs.declared.Places.{Places}
+use Rattle.header_places.specs.Judging as header
+use Rattle.header_places.specs.Judging.{Finds}
+use Rattle.header_places.proofs.Refusals.{refusing}
+use Rattle.header_reader.specs.declared.Header.{Header}
+use Rattle.header_reader.specs.declared.HeaderAnswer.{HeaderAnswer}
+use Rattle.header_reader.specs.Reading.{part, tagPlaces, readHeader, blank, valuesOf, Reads}
+use Rattle.header_reader.proofs.Answers.{by-places, given}
 use Rattle.image.specs.declared.ImageOutcome.{ImageOutcome}
 use Rattle.image.specs.declared.ImageOutcome.the-variants.{Good as GoodImage, OutsideRules, BadHeader, WrongDigest}
 use Rattle.image.specs.declared.ImageAnswer.{ImageAnswer}

@@ -5,11 +5,11 @@ use mathlib.Core.Bool.{Bool, true, false, cond, _&&_}
 use mathlib.Core.List.{List, [], _∷_}
 use lib.Dec.{ltb, eqb}
 use lib.ListN.{length, take, drop}
-use Rattle.refusals.specs.Answer.{Answer, gives, refused, then}
-use Rattle.fips180.specs.Sha256.{sha256}
-use Rattle.places.specs.Judging as header
-use Rattle.header.specs.declared.Header.{Header}
-use Rattle.header.specs.Reading.{tagPlaces, valuesAt, valuesOf}
+use Rattle.numbers.specs.Answer.{Answer, gives, refused, then}
+use Rattle.digest_fips180.specs.Sha256.{sha256}
+use Rattle.header_places.specs.Judging as header
+use Rattle.header_reader.specs.declared.Header.{Header}
+use Rattle.header_reader.specs.Reading.{tagPlaces, valuesAt, valuesOf}
 use Rattle.flash.specs.declared.Geometry.{Geometry}
 use Rattle.flash.specs.Sectors.{firmwareOf}
 use Rattle.flash.specs.Buffers.{partitionOf}

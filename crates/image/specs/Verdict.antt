@@ -2,10 +2,10 @@
 use mathlib.Core.Path.{_≡_}
 use Prim.Native.Nat.{ℕ}
 use mathlib.Core.List.{List}
-use Rattle.refusals.specs.Answer.{Answer, gives, refused, then}
+use Rattle.numbers.specs.Answer.{Answer, gives, refused, then}
 use Rattle.flash.specs.declared.Geometry.{Geometry}
 use Rattle.flash.specs.Sectors.{firmwareOf}
-use Rattle.header.specs.declared.Header.{Header}
+use Rattle.header_reader.specs.declared.Header.{Header}
 use Rattle.image.specs.declared.ImageOutcome.{ImageOutcome}
 use Rattle.image.specs.declared.ImageOutcome.the-variants.{Good as GoodImage}
 use Rattle.image.specs.declared.Release.{Release}

@@ -1,17 +1,17 @@
 // The check of a firmware image: its header, its size and its digest.
 use flash::Geometry;
 use flash::GeometryAnswer;
-use header::Header;
-use places::HeaderOutcome;
-use places::ROWS;
+use header_places::HeaderOutcome;
+use header_places::ROWS;
+use header_reader::Header;
 ghost use mathlib.Core.Path.{_≡_};
 ghost use Prim.Native.Nat.{_≤_};
 ghost use lib.ListN.{length};
-ghost use Rattle.fips180.specs.Sha256.{sha256};
+ghost use Rattle.digest_fips180.specs.Sha256.{sha256};
 ghost use Rattle.flash.specs.Sectors.{Partition, firmwareOf};
-ghost use Rattle.places.specs.Table.{documentTable};
-ghost use Rattle.places.specs.Judging.{Within};
-ghost use Rattle.header.specs.Reading.{valuesAt, blank};
+ghost use Rattle.header_places.specs.Table.{documentTable};
+ghost use Rattle.header_places.specs.Judging.{Within};
+ghost use Rattle.header_reader.specs.Reading.{valuesAt, blank};
 ghost use Rattle.image.specs.Check.{same, judged, imageIn, checkImage, Checks};
 ghost use Rattle.image.specs.Verdict.{releaseOf, Judges};
 
@@ -52,7 +52,7 @@ pub enum ImageVerdict {
 fn has_digest(firmware: &[u8], stated: &[u8]) -> bool
     ensures { λ r. ⌜ r ≡ same (sha256 (now (firmware .entry))) (now (stated .entry)) ⌝ }
 {
-    let digest = sha256::digest(firmware);
+    let digest = digest_sha256::digest(firmware);
     check::same(&digest, stated)
 }
 
@@ -64,9 +64,9 @@ fn read_release(h: &[u8], places: [usize; ROWS]) -> Release
     let version = places[0];
     let timestamp = places[1];
     Release {
-        version: header::read_u32(h, version + 4),
-        size: header::read_u32(h, 4),
-        timestamp: header::read_u64(h, timestamp + 4),
+        version: header_reader::read_u32(h, version + 4),
+        size: header_reader::read_u32(h, 4),
+        timestamp: header_reader::read_u64(h, timestamp + 4),
     }
 }
 
@@ -76,14 +76,14 @@ fn judge_at(b: &[u8], places: [usize; ROWS]) -> ImageVerdict
     requires { ⌜ (256 ≤ length (now b)) × Within documentTable places 256 ⌝ }
     ensures { λ r. ⌜ Judges (judged (now (b .entry)) places) r ⌝ }
 {
-    let h = &b[..tags::HEADER_LENGTH];
-    let size = header::read_u32(h, 4) as usize;
-    if b.len() - tags::HEADER_LENGTH < size {
+    let h = &b[..header_tags::HEADER_LENGTH];
+    let size = header_reader::read_u32(h, 4) as usize;
+    if b.len() - header_tags::HEADER_LENGTH < size {
         return ImageVerdict::Bad(ImageOutcome::BadHeader(HeaderOutcome::WrongSize));
     }
-    let end = tags::HEADER_LENGTH + size;
+    let end = header_tags::HEADER_LENGTH + size;
     let at = places[2];
-    if has_digest(&b[tags::HEADER_LENGTH..end], &h[at + 4..at + 36]) {
+    if has_digest(&b[header_tags::HEADER_LENGTH..end], &h[at + 4..at + 36]) {
         return ImageVerdict::Good(read_release(h, places));
     }
     ImageVerdict::Bad(ImageOutcome::WrongDigest)
@@ -93,7 +93,7 @@ fn judge_at(b: &[u8], places: [usize; ROWS]) -> ImageVerdict
 pub fn judge(b: &[u8]) -> ImageVerdict
     ensures { λ r. ⌜ Judges (imageIn (now (b .entry))) r ⌝ }
 {
-    let found = header::locate(b);
+    let found = header_reader::locate(b);
     let outcome = found.outcome;
     let places = found.places;
     if let HeaderOutcome::Accepted = outcome {
@@ -107,7 +107,7 @@ pub fn judge_partition(g: Geometry, partition: &[u8]) -> ImageVerdict
     requires { ⌜ Partition g (now partition) ⌝ }
     ensures { λ r. ⌜ Judges (imageIn (firmwareOf g (now (partition .entry)))) r ⌝ }
 {
-    judge(sectors::firmware_part(g, partition))
+    judge(flash_sectors::firmware_part(g, partition))
 }
 
 // ---- the check that hands back the header's values
@@ -128,7 +128,7 @@ pub fn check_firmware(b: &[u8]) -> ImageAnswer
 {
     match judge(b) {
         ImageVerdict::Good(_) => {
-            let read = header::read_header(b);
+            let read = header_reader::read_header(b);
             let header = read.header;
             ImageAnswer {
                 outcome: ImageOutcome::Good,
@@ -144,7 +144,7 @@ pub fn check_image(sectors: usize, size: usize, partition: &[u8]) -> ImageAnswer
     ensures { λ r. ⌜ Checks (checkImage sectors size (now (partition .entry))) r ⌝ }
 {
     match flash::check_partition(sectors, size, partition) {
-        GeometryAnswer::Fits(g) => check_firmware(sectors::firmware_part(g, partition)),
+        GeometryAnswer::Fits(g) => check_firmware(flash_sectors::firmware_part(g, partition)),
         GeometryAnswer::Outside => refuse(ImageOutcome::OutsideRules),
     }
 }

@@ -8,11 +8,11 @@ use lib.Dec.{ltb}
 use lib.ListN.{length, take}
 use lib.Seq.{take-take, take-all, length-take-le}
 use borrow.Author.Tests.{ltb-true, ltb-false, le-ltb}
-use Rattle.tags.specs.Walk.{itemAt, itemFrom, tagsFrom}
-use Rattle.places.specs.Judging.{judge, rowOf, placesIn}
-use Rattle.header.specs.Reading.{tagPlaces, readHeader}
-use Rattle.header.proofs.Answers.{short, by-places}
-use Rattle.lines.specs.Lines.{placesWithin, decimal, fields, refusal}
+use Rattle.header_tags.specs.Walk.{itemAt, itemFrom, tagsFrom}
+use Rattle.header_places.specs.Judging.{judge, rowOf, placesIn}
+use Rattle.header_reader.specs.Reading.{tagPlaces, readHeader}
+use Rattle.header_reader.proofs.Answers.{short, by-places}
+use Rattle.listing_lines.specs.Lines.{placesWithin, decimal, fields, refusal}
 use Rattle.listing.specs.Listing.{listing}
 use Rattle.listing.specs.Examples.{ListsExample, MissingVersion, ListsBytes, TooShort, FirstBytesOnly}
 

@@ -5,12 +5,12 @@ use mathlib.Core.List.{List}
 use native.Mathlib.Omega.{arith}
 use lib.ListN.{length}
 use lib.Seq.{sets-eq, length-sets, length-take-le}
-use Rattle.refusals.specs.Answer.{Answer, gives, then}
-use Rattle.places.specs.declared.HeaderOutcome.{HeaderOutcome}
-use Rattle.places.specs.declared.HeaderOutcome.the-variants.{Accepted, TooShort, WrongMagic, WrongSize, TagDoesNotFit, WrongLength, Repeated, NoEnd, Missing}
-use Rattle.places.specs.Judging.{answerOf}
-use Rattle.header.specs.declared.Header.{Header}
-use Rattle.header.specs.Reading.{readHeader}
+use Rattle.numbers.specs.Answer.{Answer, gives, then}
+use Rattle.header_places.specs.declared.HeaderOutcome.{HeaderOutcome}
+use Rattle.header_places.specs.declared.HeaderOutcome.the-variants.{Accepted, TooShort, WrongMagic, WrongSize, TagDoesNotFit, WrongLength, Repeated, NoEnd, Missing}
+use Rattle.header_places.specs.Judging.{answerOf}
+use Rattle.header_reader.specs.declared.Header.{Header}
+use Rattle.header_reader.specs.Reading.{readHeader}
 use Rattle.listing.specs.declared.Verdict.{Verdict}
 use Rattle.output.specs.Puts.{Puts}
 use Rattle.listing.specs.Listing.{listing, listingOf, saidBy, Lists}

@@ -4,10 +4,10 @@ use Prim.Native.Nat.{ℕ, _-_, _<_}
 use mathlib.Core.List.{List, [], _∷_, _++_}
 use mathlib.Core.Bool.{false}
 use lib.ListN.{length, take, replicate}
-use Rattle.refusals.specs.Answer.{gives, refused}
-use Rattle.tags.specs.Bytes.{littleEndian, tagBytes}
-use Rattle.header.specs.declared.Header.{Header}
-use Rattle.header.specs.Reading.{magic}
+use Rattle.numbers.specs.Answer.{gives, refused}
+use Rattle.header_tags.specs.Bytes.{littleEndian, tagBytes}
+use Rattle.header_reader.specs.declared.Header.{Header}
+use Rattle.header_reader.specs.Reading.{magic}
 use Rattle.listing.specs.Listing.{listing, listingOf}
 
 -- Size 256, version 7, timestamp 1700000000, auth type 512 and no hint, with any digest, signature and bytes of a hint.

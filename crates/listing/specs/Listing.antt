@@ -4,10 +4,10 @@ use Prim.Native.Nat.{ℕ}
 use mathlib.Core.List.{List, _++_}
 use lib.ListN.{length, drop}
 use Rattle.io.specs.Counts.{Counts}
-use Rattle.refusals.specs.Answer.{Answer, gives, refused}
-use Rattle.header.specs.declared.Header.{Header}
-use Rattle.header.specs.Reading.{readHeader}
-use Rattle.lines.specs.Lines.{fields, refusal}
+use Rattle.numbers.specs.Answer.{Answer, gives, refused}
+use Rattle.header_reader.specs.declared.Header.{Header}
+use Rattle.header_reader.specs.Reading.{readHeader}
+use Rattle.listing_lines.specs.Lines.{fields, refusal}
 use Rattle.listing.specs.declared.Verdict.{Verdict}
 use Rattle.listing.specs.declared.Verdict.the-variants.{Accepted, Refused}
 

@@ -1,13 +1,13 @@
 // The listing of a header as text: its fields by name, or the line of a refusal.
-use lines::put_fields;
-use lines::put_refusal;
-use places::HeaderOutcome;
+use header_places::HeaderOutcome;
+use listing_lines::put_fields;
+use listing_lines::put_refusal;
 ghost use mathlib.Core.Path.{_≡_};
-ghost use Rattle.places.specs.Judging.{answerOf};
+ghost use Rattle.header_places.specs.Judging.{answerOf};
 ghost use Rattle.listing.specs.Listing.{saidBy, Lists};
 
 // How many bytes a header has: a caller need read no more.
-pub const HEADER_LENGTH: usize = tags::HEADER_LENGTH;
+pub const HEADER_LENGTH: usize = header_tags::HEADER_LENGTH;
 
 // Room for every listing.
 pub const TEXT_LENGTH: usize = 128;
@@ -40,7 +40,7 @@ pub fn verdict_of(o: HeaderOutcome) -> Verdict
 pub fn list(s: &[u8], out: &mut [u8; TEXT_LENGTH]) -> usize
     ensures { λ r. ⌜ Lists (now (s .entry)) (now (out .entry)) (now (out .exit)) r ⌝ }
 {
-    let answer = header::read_header(s);
+    let answer = header_reader::read_header(s);
     let outcome = answer.outcome;
     let verdict = verdict_of(outcome);
     match verdict {

@@ -5,15 +5,15 @@ use mathlib.Core.List.{List, [], _∷_}
 use lib.ListN.{length, set}
 use native.Mathlib.Omega.{arith}
 use borrow.Author.Tests.{eq-eqb}
-use Rattle.refusals.specs.Answer.{Answer}
+use Rattle.numbers.specs.Answer.{Answer}
 use Rattle.flash.specs.Sizes.{geometry}
 use Rattle.flash.specs.Buffers.{Flash}
-use Rattle.places.specs.declared.HeaderOutcome.{HeaderOutcome}
-use Rattle.places.specs.declared.HeaderOutcome.the-variants.{Accepted, TooShort, WrongMagic, WrongSize, TagDoesNotFit, WrongLength, Repeated, NoEnd, Missing}
-use Rattle.places.specs.Judging as header
-use Rattle.header.specs.declared.Header.{Header}
-use Rattle.header.specs.declared.HeaderAnswer.{HeaderAnswer}
-use Rattle.header.specs.Reading.{readHeader, valuesOf, Reads}
+use Rattle.header_places.specs.declared.HeaderOutcome.{HeaderOutcome}
+use Rattle.header_places.specs.declared.HeaderOutcome.the-variants.{Accepted, TooShort, WrongMagic, WrongSize, TagDoesNotFit, WrongLength, Repeated, NoEnd, Missing}
+use Rattle.header_places.specs.Judging as header
+use Rattle.header_reader.specs.declared.Header.{Header}
+use Rattle.header_reader.specs.declared.HeaderAnswer.{HeaderAnswer}
+use Rattle.header_reader.specs.Reading.{readHeader, valuesOf, Reads}
 use Rattle.header_writer.specs.Writing.{Write, writeHeader}
 use Rattle.image.specs.declared.ImageAnswer.{ImageAnswer}
 use Rattle.image.specs.declared.ImageOutcome.{ImageOutcome}
@@ -23,17 +23,17 @@ use Rattle.image.specs.Check.{Checks, checkImage}
 use Rattle.exchange.specs.PowerUp.{powerUp}
 use Rattle.exchange.specs.Commands.{Command}
 use Rattle.image.specs.Verdict.{checkOf}
-use Rattle.decision.specs.Numbers.{reasonOf}
-use Rattle.loader.specs.declared.PowerUpAnswer.{PowerUpAnswer}
-use Rattle.loader.specs.Loader.{outcomeOf, answered}
-use Rattle.commands.specs.declared.CommandAnswer.{CommandAnswer}
-use Rattle.commands.specs.Numbers.{commandOf, commanded}
-use Rattle.tags.specs.Walk.{Item, walkAt, placeBehind}
+use Rattle.power_up_decision.specs.Numbers.{reasonOf}
+use Rattle.power_up.specs.declared.PowerUpAnswer.{PowerUpAnswer}
+use Rattle.power_up.specs.Loader.{outcomeOf, answered}
+use Rattle.exchange_commands.specs.declared.CommandAnswer.{CommandAnswer}
+use Rattle.exchange_commands.specs.Numbers.{commandOf, commanded}
+use Rattle.header_tags.specs.Walk.{Item, walkAt, placeBehind}
 use Rattle.c_headers.specs.declared.Refused.{Refused}
-use Rattle.c_loading.specs.declared.Ended.{Ended}
+use Rattle.c_power_up.specs.declared.Ended.{Ended}
 use Rattle.c_headers.specs.Numbers.{refusalOf, headerRefusal, imageRefusal}
 use Rattle.c_headers.specs.Rows.{headerNumbers, bytesOf, tagRow}
-use Rattle.c_loading.specs.Outcomes.{endedOf, reasonRefusal, countOf, powerRow}
+use Rattle.c_power_up.specs.Outcomes.{endedOf, reasonRefusal, countOf, powerRow}
 use Rattle.c_headers.proofs.Refusals.{bad-is}
 use Rattle.tainhosa.specs.Headers.{Given, given, laidOut, readAnswer, checkAnswer, Wrote, wrote, writeAnswer}
 use Rattle.tainhosa.specs.Walking.{Walked, tagAnswer}

@@ -4,7 +4,7 @@ use mathlib.Core.Bool.{cond}
 use mathlib.Core.List.{List}
 use lib.Dec.{eqb}
 use lib.ListN.{length}
-use Rattle.fips180.specs.Sha256.{sha256}
+use Rattle.digest_fips180.specs.Sha256.{sha256}
 
 -- The number that the call answers, and the bytes of the caller's buffer as it returns.
 pub record Answered : Type 0 where

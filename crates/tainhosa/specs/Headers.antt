@@ -4,9 +4,9 @@ use mathlib.Core.Bool.{Bool, cond, _&&_}
 use mathlib.Core.List.{List, [], _∷_}
 use lib.Dec.{eqb}
 use lib.ListN.{length}
-use Rattle.refusals.specs.Answer.{Answer}
-use Rattle.header.specs.declared.Header.{Header}
-use Rattle.header.specs.Reading.{part, readHeader, valuesOf}
+use Rattle.numbers.specs.Answer.{Answer}
+use Rattle.header_reader.specs.declared.Header.{Header}
+use Rattle.header_reader.specs.Reading.{part, readHeader, valuesOf}
 use Rattle.header_writer.specs.Writing.{Write, writeHeader}
 use Rattle.image.specs.Check.{checkImage}
 use Rattle.c_headers.specs.declared.Refused.{Refused}

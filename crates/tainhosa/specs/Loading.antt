@@ -10,7 +10,7 @@ use Rattle.exchange.specs.PowerUp.{PowerUp, powerUp}
 use Rattle.exchange.specs.Commands.{Command, arm, confirm}
 use Rattle.image.specs.Verdict.{checkOf}
 use Rattle.c_headers.specs.Numbers.{refusalOf}
-use Rattle.c_loading.specs.Outcomes.{endedOf, reasonRefusal, countOf, powerRow}
+use Rattle.c_power_up.specs.Outcomes.{endedOf, reasonRefusal, countOf, powerRow}
 
 -- ---- power-up
 

@@ -4,8 +4,8 @@ use mathlib.Core.Bool.{cond}
 use mathlib.Core.List.{List}
 use lib.Dec.{eqb}
 use lib.ListN.{length}
-use Rattle.refusals.specs.Answer.{Answer}
-use Rattle.tags.specs.Walk.{Item, walkAt, placeBehind}
+use Rattle.numbers.specs.Answer.{Answer}
+use Rattle.header_tags.specs.Walk.{Item, walkAt, placeBehind}
 use Rattle.c_headers.specs.Numbers.{refusalOf}
 use Rattle.c_headers.specs.Rows.{tagRow}
 

@@ -1,7 +1,7 @@
 // The C interface of the library. A C caller passes a slice as a pointer and a length. Every answer is 0 or a refusal's number;
 // a buffer of another length than documented is refusal 1, and nothing changes.
 use c_headers::Refused;
-use header::Header;
+use header_reader::Header;
 ghost use mathlib.Core.Path.{_≡_};
 ghost use Rattle.flash.specs.Buffers.{flash};
 ghost use Rattle.tainhosa.specs.Digest.{sha256Answer};
@@ -36,7 +36,7 @@ pub extern "C" fn tainhosa_sha256(message: &[u8], digest: &mut [u8]) -> u32
     if digest.len() != DIGEST_BYTES {
         return WRONG_LENGTH;
     }
-    let d = sha256::digest(message);
+    let d = digest_sha256::digest(message);
     c_headers::put_bytes(digest, &d);
     0
 }
@@ -60,7 +60,7 @@ fn give(numbers: &mut [u64], bytes: &mut [u8], refused: Refused, v: Header) -> u
 pub extern "C" fn tainhosa_read_header(input: &[u8], numbers: &mut [u64], bytes: &mut [u8]) -> u32
     ensures { λ r. ⌜ record { answer = r; numbers = now (numbers .exit); bytes = now (bytes .exit) } ≡ readAnswer (now (input .entry)) (now (numbers .entry)) (now (bytes .entry)) ⌝ }
 {
-    let read = header::read_header(input);
+    let read = header_reader::read_header(input);
     let outcome = read.outcome;
     let v = read.header;
     give(numbers, bytes, c_headers::of_header(outcome), v)
@@ -104,9 +104,9 @@ pub extern "C" fn tainhosa_write_header(
     if place.len() != WRITE_NUMBERS {
         return WRONG_LENGTH;
     }
-    let digest = header::copy_32(bytes, 0);
-    let signature = header::copy_64(bytes, 32);
-    let hint = header::copy_32(bytes, 96);
+    let digest = header_reader::copy_32(bytes, 0);
+    let signature = header_reader::copy_64(bytes, 32);
+    let hint = header_reader::copy_32(bytes, 96);
     let v = Header {
         size,
         version,
@@ -130,8 +130,8 @@ pub extern "C" fn tainhosa_next_tag(input: &[u8], at: usize, tag: &mut [u64]) ->
     if tag.len() != TAG_NUMBERS {
         return WRONG_LENGTH;
     }
-    let t = tags::walk_at(input, at);
-    let next = tags::next_place(input, at);
+    let t = header_tags::walk_at(input, at);
+    let next = header_tags::next_place(input, at);
     let row = c_headers::tag_row(t, next as u64);
     c_headers::put_numbers(tag, &row);
     c_headers::of_tag(t)
@@ -153,11 +153,11 @@ pub extern "C" fn tainhosa_power_up(
     if answer.len() != POWER_UP_NUMBERS {
         return WRONG_LENGTH;
     }
-    let a = loader::power_up(sectors, size, boot, update, swap, budget);
+    let a = power_up::power_up(sectors, size, boot, update, swap, budget);
     let outcome = a.outcome;
     let reason = a.reason;
-    let ended = c_loading::of_outcome(outcome);
-    let why = c_loading::of_reason(reason);
+    let ended = c_power_up::of_outcome(outcome);
+    let why = c_power_up::of_reason(reason);
     let row = [
         ended.outcome,
         a.count,
@@ -185,10 +185,10 @@ pub extern "C" fn tainhosa_arm(
     if count.len() != COMMAND_NUMBERS {
         return WRONG_LENGTH;
     }
-    let a = commands::arm(sectors, size, boot, update, swap);
-    let row = [c_loading::count_of(a)];
+    let a = exchange_commands::arm(sectors, size, boot, update, swap);
+    let row = [c_power_up::count_of(a)];
     c_headers::put_numbers(count, &row);
-    c_loading::of_command(a)
+    c_power_up::of_command(a)
 }
 
 // Keeps the image that runs on test.
@@ -206,8 +206,8 @@ pub extern "C" fn tainhosa_confirm(
     if count.len() != COMMAND_NUMBERS {
         return WRONG_LENGTH;
     }
-    let a = commands::confirm(sectors, size, boot, update, swap);
-    let row = [c_loading::count_of(a)];
+    let a = exchange_commands::confirm(sectors, size, boot, update, swap);
+    let row = [c_power_up::count_of(a)];
     c_headers::put_numbers(count, &row);
-    c_loading::of_command(a)
+    c_power_up::of_command(a)
 }

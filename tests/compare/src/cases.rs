@@ -1,4 +1,4 @@
-//! Prints what crates/power_cases must print, from the reference alone.
+//! Prints what crates/power_up_cases must print, from the reference alone.
 mod reference;
 use reference::*;
 

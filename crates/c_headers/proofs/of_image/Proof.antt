@@ -1,5 +1,5 @@
 use mathlib.Core.Path.{_∙_}
-use Rattle.places.specs.Judging as header
+use Rattle.header_places.specs.Judging as header
 use Rattle.c_headers.proofs.Refusals.{bad-is}
 use borrow.Author.Needs.{needs}
 use Rattle.c_headers.proofs.of_image.Statement.{statement}

@@ -1,7 +1,7 @@
 -- `judge` meets its contract. Assumes nothing.
 use mathlib.Core.List.{[], _∷_}
 use types.Run.{miss}
-use Rattle.header.proofs.Answers.{located, given}
+use Rattle.header_reader.proofs.Answers.{located, given}
 use Rattle.image.proofs.Verdicts.{by-located, bad-header}
 use borrow.Author.Needs.{needs}
 use Rattle.image.proofs.judge.Statement.{statement}

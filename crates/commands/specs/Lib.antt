@@ -1,3 +1,0 @@
--- Arm and confirm: what they promise, and what their own functions answer.
-pub mod Numbers
-pub mod Parts

@@ -1,0 +1,57 @@
+use mathlib.Core.Path.{refl, ap, _∙_}
+use native.Mathlib.Omega.{arith}
+use lib.ListN.{length-set}
+use Rattle.digest_fips180.specs.Sha256.{bytes}
+use Rattle.digest_sha256.specs.Parts.{digestAfter}
+use Rattle.digest_sha256.proofs.Padding.{marked-law, ends-law, more-law}
+use borrow.Author.Needs.{needs}
+use Rattle.digest_sha256.proofs.digest_after.Statement.{statement}
+use Rattle.digest_sha256.proofs.digest_after.Tie as tie
+
+returns : tie.Need-returns
+unfolding digestAfter
+returns c =
+    let c4 = c .before .before .before .before in
+    let c8 = c4 .before .before .before .before in
+    let c11 = c8 .before .before .before in
+    let s = c11 .args in
+    let t = marked-law (s .rest .now) (omega arith) (c8 .copy .ensures .1) refl in
+    c .bytes .ensures
+    ∙ ap bytes (ends-law (s .h) (s .rest .now) (s .count) (c11 .pre) (omega arith) t (c4 .put-length .ensures) (c .before .compress .ensures))
+
+compress-requires-2 : tie.Need-compress-requires-2
+compress-requires-2 c κs = simp length-set (omega arith)
+
+returns-2 : tie.Need-returns-2
+unfolding digestAfter
+returns-2 c =
+    let c4 = c .before .before .before .before in
+    let c6 = c4 .before .before in
+    let c10 = c6 .before .before .before .before in
+    let c13 = c10 .before .before .before in
+    let s = c13 .args in
+    let t = marked-law (s .rest .now) (omega arith) (c10 .copy .ensures .1) refl in
+    c .bytes2 .ensures
+    ∙ ap bytes (more-law (s .h) (s .rest .now) (s .count) (c13 .pre) (omega arith) t (c6 .compress2 .ensures) (c4 .put-length2 .ensures) (c .before .compress3 .ensures))
+
+pub digest-after-spec : {M : Type 1} → statement M
+digest-after-spec =
+    tie.close
+    (tie.spec
+    (λ c. search needs)
+    (λ c κs. search needs)
+    (λ c. search needs)
+    (λ c. search needs)
+    (λ c κs. search needs)
+    (λ c. search needs)
+    (λ c κs. search needs)
+    (λ c κs. search needs)
+    returns
+    (λ c. search needs)
+    compress-requires-2
+    (λ c. search needs)
+    (λ c κs. search needs)
+    (λ c. search needs)
+    (λ c κs. search needs)
+    (λ c κs. search needs)
+    returns-2)

@@ -1,0 +1,2 @@
+-- What the single step requires and answers.
+pub mod Inner

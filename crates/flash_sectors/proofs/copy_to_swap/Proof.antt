@@ -1,0 +1,27 @@
+use mathlib.Core.Path.{sym, _∙_}
+use native.Mathlib.Omega.{arith}
+use Rattle.flash_sectors.proofs.Lent.{copy-whole, mid-length, part-read}
+use borrow.Author.Needs.{needs}
+use Rattle.flash_sectors.proofs.copy_to_swap.Statement.{statement}
+use Rattle.flash_sectors.proofs.copy_to_swap.Tie as tie
+
+returns : tie.Need-returns
+returns c =
+    let o = c .before .before .before .before .before .offset-of in
+    let s = c .before .before .before .before .before .before .before .before in
+    let a = s .args in
+    copy-whole _ _ (s .pre .2 ∙ sym (mid-length (o .result .0) (a .g .size) (a .partition .now) (omega arith))) (c .before .before .copy .ensures)
+    ∙ part-read (a .g .size) (a .partition .now) (o .ensures .is)
+
+pub copy-to-swap-spec : {M : Type 1} → statement M
+copy-to-swap-spec =
+    tie.close
+    (tie.spec
+    (λ c κs. search needs)
+    (λ c. search needs)
+    (λ c. search needs)
+    (λ c. search needs)
+    (λ c. search needs)
+    (λ c κs. search needs)
+    (λ c. search needs)
+    returns)

@@ -1,0 +1,105 @@
+// Where the tags of a rustBoot header stand, judged by a table of types and lengths.
+use header_tags::Tag;
+ghost use mathlib.Core.Path.{_≡_};
+ghost use Prim.Native.Nat.{_≤_};
+ghost use lib.ListN.{length};
+ghost use Rattle.header_places.specs.Table.{table};
+ghost use Rattle.header_places.specs.Judging.{rowOf, placesIn, blank, Finds};
+
+// How many rows the table of tags has.
+pub const ROWS: usize = 6;
+
+// What a header is: accepted, or refused, with the place.
+pub enum HeaderOutcome {
+    Accepted,
+    TooShort,
+    WrongMagic,
+    // The firmware's size is 0; in an image also: more than its sectors hold.
+    WrongSize,
+    TagDoesNotFit(usize),
+    WrongLength(usize),
+    Repeated(usize),
+    NoEnd(usize),
+    // The type that is missing.
+    Missing(usize),
+}
+
+// The places of the table's tags, 0 where a tag was not seen, and the outcome. The places of a refusal are blank: all 0.
+pub struct Places {
+    pub outcome: HeaderOutcome,
+    pub places: [usize; ROWS],
+}
+
+// The first index at which a number stands, or the length.
+fn row_of(row: &[usize], x: usize) -> usize
+    ensures { λ r. ⌜ r ≡ rowOf (now (row .entry)) x ⌝ }
+{
+    let mut i = 0;
+    while i < row.len() {
+        if row[i] == x {
+            return i;
+        }
+        i += 1;
+    }
+    i
+}
+
+// An outcome beside blank places.
+pub fn refuse(o: HeaderOutcome) -> Places
+    ensures { λ r. ⌜ (r .outcome ≡ o) × (r .places ≡ blank) ⌝ }
+{
+    Places {
+        outcome: o,
+        places: [0usize; ROWS],
+    }
+}
+
+// The places of a header's tags by a table.
+pub fn find_places(h: &[u8], types: &[usize], lengths: &[usize], required: usize) -> Places
+    requires { ⌜ (length (now types) ≡ 6) × (length (now lengths) ≡ 6) × (required ≤ 6) ⌝ }
+    ensures { λ r. ⌜ Finds (placesIn (table (now (types .entry)) (now (lengths .entry)) required) (now (h .entry))) r ⌝ }
+{
+    let mut places = [0usize; ROWS];
+    let mut at = header_tags::FIRST_TAG;
+    loop {
+        let t = header_tags::read_tag(h, at);
+        match t {
+            Tag::Found {
+                place,
+                kind,
+                length,
+            } => {
+                let row = row_of(types, kind);
+                if row < types.len() {
+                    if length != lengths[row] {
+                        return refuse(HeaderOutcome::WrongLength(place));
+                    }
+                    if places[row] != 0 {
+                        return refuse(HeaderOutcome::Repeated(place));
+                    }
+                    places[row] = place;
+                }
+                at = place + 4 + length;
+            }
+            Tag::End => {
+                let first = row_of(&places[..required], 0);
+                if first < required {
+                    return refuse(HeaderOutcome::Missing(types[first]));
+                }
+                return Places {
+                    outcome: HeaderOutcome::Accepted,
+                    places,
+                };
+            }
+            Tag::TooShort => {
+                return refuse(HeaderOutcome::TooShort);
+            }
+            Tag::DoesNotFit(p) => {
+                return refuse(HeaderOutcome::TagDoesNotFit(p));
+            }
+            Tag::NoEnd(p) => {
+                return refuse(HeaderOutcome::NoEnd(p));
+            }
+        }
+    }
+}

@@ -1,0 +1,19 @@
+-- `put_refusal` meets its contract. Assumes nothing.
+use Rattle.listing_lines.proofs.Putting.{puts-refusal}
+use borrow.Author.Needs.{needs}
+use Rattle.listing_lines.proofs.put_refusal.Statement.{statement}
+use Rattle.listing_lines.proofs.put_refusal.Tie as tie
+
+returns : tie.Need-returns
+returns c = (puts-refusal (c .before .before .before .before .before .before .before .before .before .before .before .args .number) (c .before .before .before .before .before .before .before .before .before .before .before .args .place) (c .before .before .before .before .before .before .before .put-named .ensures .0) (c .before .before .put-line .ensures .0), search needs)
+
+pub put-refusal-spec : {M : Type 1} → statement M
+put-refusal-spec =
+    tie.close
+    (tie.spec
+    (λ c. search needs)
+    (λ c κs. search needs)
+    (λ c. search needs)
+    (λ c κs. search needs)
+    (λ c. search needs)
+    returns)

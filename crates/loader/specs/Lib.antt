@@ -1,3 +1,0 @@
--- Power-up: what it promises, and what its own functions answer.
-pub mod Loader
-pub mod Parts

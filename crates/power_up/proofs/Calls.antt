@@ -1,0 +1,28 @@
+-- Power-up by its first check.
+use mathlib.Core.Path.{_≡_, refl, ap}
+use Prim.Native.Nat.{ℕ}
+use Rattle.numbers.specs.Answer.{gives, refused}
+use Rattle.flash.specs.declared.Geometry.{Geometry}
+use Rattle.flash.specs.Sizes.{geometry}
+use Rattle.flash.specs.Buffers.{Flash, flashOf}
+use Rattle.flash.proofs.Answers.{flash-asked, flash-fits, flash-unfit}
+use Rattle.flash_status.specs.StatusBytes.{bootStatusAt, updateStatusAt}
+use Rattle.flash_flags.specs.SectorFlags.{flagsAt}
+use Rattle.exchange.specs.Decision.{Check, Plan, decideStatuses, decide}
+use Rattle.exchange.specs.PowerUp.{refusal, idle, carryOut, powerUp}
+
+-- ---- geometry and lengths are outside the rules
+
+module _ (n s : ℕ) (f : Flash) (e : refused 1 0 ≡ flashOf n s f) where
+  pub power-up-outside : (check : Check) (budget : ℕ) → idle (refusal 1 0 0) f ≡ powerUp check (geometry n s) f budget
+  unfolding powerUp decide
+  power-up-outside check budget = rw (flash-unfit n s f e) refl
+
+-- ---- within
+
+module _ (n s : ℕ) (f : Flash) (g : Geometry) (e : gives g ≡ flashOf n s f) where
+  pub power-up-inside : (check : Check) (budget : ℕ) (plan : Plan)
+      → plan ≡ decideStatuses (bootStatusAt g (f .boot)) (updateStatusAt g (f .update)) (flagsAt g (f .update)) (check g (f .update)) (check g (f .boot))
+      → carryOut check g f budget plan ≡ powerUp check (geometry n s) f budget
+  unfolding powerUp decide
+  power-up-inside check budget plan p = rw (flash-asked n s f g e) (rw (flash-fits n s f g e) (ap (carryOut check g f budget) p))

@@ -1,0 +1,15 @@
+use Rattle.exchange.specs.Order.{nextOperation}
+use borrow.Author.Needs.{needs}
+use Rattle.power_up.proofs.do_job.Statement.{statement}
+use Rattle.power_up.proofs.do_job.Tie as tie
+
+returns : tie.Need-returns
+unfolding nextOperation
+returns c =
+    let c9 = c .before .before .before .before .before .before .before .before .before in
+    rw (← c9 .repeat-step .ensures, c .outcome-at .ensures)
+
+pub do-job-spec : {M : Type 1} → statement M
+do-job-spec =
+    tie.close
+    (tie.spec (λ c κs. search needs) (λ c κs. search needs) (λ c. search needs) (λ c. search needs) (λ c. search needs) returns)

@@ -1,0 +1,8 @@
+-- What the loader's own functions answer.
+use Rattle.power_up_decision.specs.declared.Reason.the-variants.{None}
+use Rattle.power_up.specs.declared.Outcome.{Outcome}
+use Rattle.power_up.specs.declared.PowerUpAnswer.{PowerUpAnswer}
+
+-- an answer without operations
+abbrev pub idleAnswer : Outcome → PowerUpAnswer
+idleAnswer o = record { outcome = o; reason = None; count = 0 }

@@ -1,0 +1,3 @@
+-- The checks before the work: the numbers of their refusals, and what they answer.
+pub mod Numbers
+pub mod Inner

@@ -1,2 +1,0 @@
--- What the single step requires and answers.
-pub mod Parts
