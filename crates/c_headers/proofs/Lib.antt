@@ -1,3 +1,2 @@
 -- Laws of the numbers and rows.
 pub mod Filled
-pub mod Refusals

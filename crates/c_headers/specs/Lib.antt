@@ -1,3 +1,2 @@
--- The numbers and rows of a header read or written, an image check and a tag.
-pub mod Numbers
+-- The rows of a header's values and a tag.
 pub mod Rows

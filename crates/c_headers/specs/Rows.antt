@@ -1,10 +1,15 @@
 -- The rows of numbers and bytes of a header and a tag.
 use Prim.Native.Nat.{ℕ}
+use mathlib.Core.Bool.{Bool, true, false}
 use mathlib.Core.List.{List, [], _∷_, _++_}
 use Rattle.numbers.specs.Answer.{Answer, gives, refused}
 use Rattle.header_reader.specs.declared.Header.{Header}
 use Rattle.header_tags.specs.Walk.{Item, tag, end}
-use Rattle.c_headers.specs.Numbers.{bitOf}
+
+-- A bool as a number.
+abbrev pub bitOf : Bool → ℕ
+bitOf true = 1
+bitOf false = 0
 
 -- A header's values: the numbers, behind the place of a refusal, and the bytes.
 abbrev pub headerNumbers : ℕ → Header → List ℕ

@@ -1,69 +1,13 @@
-// The numbers and rows by which a C caller gets a header read or written, an image check and a tag.
-use header_places::HeaderOutcome;
+// The rows by which a C caller gets a header's values and a tag.
 use header_reader::Header;
 use header_tags::Tag;
-use header_writer::WriteOutcome;
-use image::ImageOutcome;
 use output::put;
 ghost use mathlib.Core.Path.{_≡_};
 ghost use mathlib.Core.List.{_++_};
 ghost use lib.ListN.{length};
-ghost use Rattle.header_writer.specs.Writing as writer;
 ghost use Rattle.header_tags.specs.Walk.{itemOf};
-ghost use Rattle.c_headers.specs.Numbers.{refusedAt, refusalOf, headerRefusal, imageRefusal, bitOf};
-ghost use Rattle.c_headers.specs.Rows.{headerNumbers, bytesOf, tagRow};
-
-// Both are 0 where nothing is refused.
-pub struct Refused {
-    pub number: u32,
-    pub place: u64,
-}
-
-pub fn refuse(number: u32, place: usize) -> Refused
-    ensures { λ r. ⌜ r ≡ refusedAt number place ⌝ }
-{
-    Refused {
-        number,
-        place: place as u64,
-    }
-}
-
-pub fn of_header(o: HeaderOutcome) -> Refused
-    ensures { λ r. ⌜ r ≡ headerRefusal o ⌝ }
-{
-    match o {
-        HeaderOutcome::Accepted => refuse(0, 0),
-        HeaderOutcome::TooShort => refuse(16, 0),
-        HeaderOutcome::WrongMagic => refuse(2, 0),
-        HeaderOutcome::WrongSize => refuse(3, 4),
-        HeaderOutcome::TagDoesNotFit(p) => refuse(4, p),
-        HeaderOutcome::WrongLength(p) => refuse(5, p),
-        HeaderOutcome::Repeated(p) => refuse(6, p),
-        HeaderOutcome::NoEnd(p) => refuse(7, p),
-        HeaderOutcome::Missing(t) => refuse(8, t),
-    }
-}
-
-pub fn of_image(o: ImageOutcome) -> Refused
-    ensures { λ r. ⌜ r ≡ imageRefusal o ⌝ }
-{
-    match o {
-        ImageOutcome::Good => refuse(0, 0),
-        ImageOutcome::OutsideRules => refuse(1, 0),
-        ImageOutcome::BadHeader(h) => of_header(h),
-        ImageOutcome::WrongDigest => refuse(9, 256),
-    }
-}
-
-pub fn of_write(o: WriteOutcome) -> Refused
-    ensures { λ r. ⌜ r ≡ refusalOf (writer.answerOf o) ⌝ }
-{
-    match o {
-        WriteOutcome::Written => refuse(0, 0),
-        WriteOutcome::TooShort => refuse(16, 0),
-        WriteOutcome::ZeroSize => refuse(3, 4),
-    }
-}
+ghost use Rattle.numbers.specs.GivenBack.{refusalOf};
+ghost use Rattle.c_headers.specs.Rows.{bitOf, headerNumbers, bytesOf, tagRow};
 
 pub fn of_tag(t: Tag) -> u32
     ensures { λ r. ⌜ r ≡ refusalOf (itemOf t) .number ⌝ }

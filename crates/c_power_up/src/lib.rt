@@ -1,18 +1,12 @@
 // The numbers and rows by which a C caller gets what power-up, arm and confirm answer.
-use c_headers::Refused;
-use c_headers::of_image;
-use c_headers::refuse;
 use exchange_commands::CommandAnswer;
-use exchange_commands::CommandRefusal;
+use numbers::RefusedInside;
 use power_up::Outcome;
-use power_up_decision::Reason;
-use power_up_decision::Refusal;
 ghost use mathlib.Core.Path.{_≡_};
-ghost use Rattle.power_up_decision.specs.Numbers.{reasonOf};
+ghost use Rattle.numbers.specs.GivenBack.{refusalOf};
 ghost use Rattle.exchange_commands.specs.Numbers.{commandOf};
-ghost use Rattle.power_up.specs.Loader.{outcomeOf};
-ghost use Rattle.c_headers.specs.Numbers.{refusalOf};
-ghost use Rattle.c_power_up.specs.Outcomes.{ended, endedOf, reasonRefusal, countOf};
+ghost use Rattle.power_up.specs.Delivered.{outcomeOf};
+ghost use Rattle.c_power_up.specs.Outcomes.{ended, refusedWith, endedOf, countOf};
 
 // How a power-up ended: its outcome, and of a refusal the number, and the own number and place of a bad image within it.
 pub struct Ended {
@@ -34,26 +28,26 @@ impl Ended {
     pub const RUN_FALLEN_BACK: u64 = 4;
 }
 
-fn end(outcome: u64, number: u32, own: Refused) -> Ended
-    ensures { λ r. ⌜ r ≡ ended outcome number own ⌝ }
+// Without a refusal.
+fn end(outcome: u64) -> Ended
+    ensures { λ r. ⌜ r ≡ ended outcome ⌝ }
 {
     Ended {
         outcome,
-        number,
-        inner: own.number as u64,
-        place: own.place,
+        number: 0,
+        inner: 0,
+        place: 0,
     }
 }
 
-fn of_refusal(r: Refusal) -> Ended
-    ensures { λ e. ⌜ e ≡ endedOf (outcomeOf (Outcome.Refused r)) ⌝ }
+fn refused_with(r: RefusedInside) -> Ended
+    ensures { λ e. ⌜ e ≡ refusedWith r ⌝ }
 {
-    match r {
-        Refusal::OutsideRules => end(Ended::REFUSED, 1, refuse(0, 0)),
-        Refusal::StatusNotAllowed => end(Ended::REFUSED, 10, refuse(0, 0)),
-        Refusal::FlagsMalformed => end(Ended::REFUSED, 11, refuse(0, 0)),
-        Refusal::BadBoot(o) => end(Ended::REFUSED, 12, of_image(o)),
-        Refusal::NoFallback(o) => end(Ended::REFUSED, 13, of_image(o)),
+    Ended {
+        outcome: Ended::REFUSED,
+        number: r.number,
+        inner: r.inner as u64,
+        place: r.place as u64,
     }
 }
 
@@ -61,21 +55,11 @@ pub fn of_outcome(o: Outcome) -> Ended
     ensures { λ e. ⌜ e ≡ endedOf (outcomeOf o) ⌝ }
 {
     match o {
-        Outcome::Refused(r) => of_refusal(r),
-        Outcome::Cut => end(Ended::CUT, 0, refuse(0, 0)),
-        Outcome::Run => end(Ended::RUN, 0, refuse(0, 0)),
-        Outcome::RunOnTest => end(Ended::RUN_ON_TEST, 0, refuse(0, 0)),
-        Outcome::RunFallenBack => end(Ended::RUN_FALLEN_BACK, 0, refuse(0, 0)),
-    }
-}
-
-pub fn of_reason(r: Reason) -> Refused
-    ensures { λ w. ⌜ w ≡ reasonRefusal (reasonOf r) ⌝ }
-{
-    match r {
-        Reason::None => refuse(0, 0),
-        Reason::BadUpdate(o) => of_image(o),
-        Reason::NotNewer => refuse(15, 0),
+        Outcome::Refused(r) => refused_with(numbers::of_power_up(r)),
+        Outcome::Cut => end(Ended::CUT),
+        Outcome::Run => end(Ended::RUN),
+        Outcome::RunOnTest => end(Ended::RUN_ON_TEST),
+        Outcome::RunFallenBack => end(Ended::RUN_FALLEN_BACK),
     }
 }
 
@@ -84,12 +68,7 @@ pub fn of_command(a: CommandAnswer) -> u32
 {
     match a {
         CommandAnswer::Done(_) => 0,
-        CommandAnswer::Refused(r) => match r {
-            CommandRefusal::OutsideRules => 1,
-            CommandRefusal::StatusNotAllowed => 10,
-            CommandRefusal::FlagsMalformed => 11,
-            CommandRefusal::WrongTime => 14,
-        },
+        CommandAnswer::Refused(r) => numbers::of_command(r),
     }
 }
 

@@ -1,39 +1,12 @@
 // Prints what the image check says of the files that its arguments name, each laid at the start of an erased partition, and then of
 // copies of the first one with a byte changed.
-use image::ImageOutcome;
 use libc::STDOUT_FILENO;
-use listing::Verdict;
-ghost use mathlib.Core.Path.{_≡_};
-ghost use Rattle.image.specs.Check.{badHeader, answerOf};
-ghost use Rattle.listing.specs.Listing.{saidBy};
 
 const SECTORS: usize = 3;
 
 const SIZE: usize = 256;
 
 const PARTITION: usize = SECTORS * SIZE;
-
-// A header that was accepted is no bad one.
-fn bad_header(v: Verdict) -> Verdict
-    ensures { λ r. ⌜ saidBy r ≡ badHeader (saidBy v) ⌝ }
-{
-    match v {
-        Verdict::Accepted => Verdict::Refused(0, 0),
-        Verdict::Refused(_, _) => v,
-    }
-}
-
-// The number and the place of each of the check's outcomes.
-fn verdict_of(o: ImageOutcome) -> Verdict
-    ensures { λ r. ⌜ saidBy r ≡ answerOf o tt ⌝ }
-{
-    match o {
-        ImageOutcome::Good => Verdict::Accepted,
-        ImageOutcome::OutsideRules => Verdict::Refused(1, 0),
-        ImageOutcome::BadHeader(h) => bad_header(listing::verdict_of(h)),
-        ImageOutcome::WrongDigest => Verdict::Refused(9, 256),
-    }
-}
 
 fn print(text: &[u8]) {
     io::write_all(STDOUT_FILENO, text);
@@ -48,13 +21,12 @@ fn print_number(label: &[u8], n: u64) {
 fn print_check(partition: [u8; PARTITION]) {
     let answer = image::check_image(SECTORS, SIZE, &partition);
     let outcome = answer.outcome;
-    let verdict = verdict_of(outcome);
-    match verdict {
-        Verdict::Accepted => print_number(b"good, version ", answer.header.version as u64),
-        Verdict::Refused(number, place) => {
-            print_number(b"refused ", number as u64);
-            print_number(b" at ", place as u64);
-        }
+    let refused = numbers::of_image(outcome);
+    if refused.number == 0 {
+        print_number(b"good, version ", answer.header.version as u64);
+    } else {
+        print_number(b"refused ", refused.number as u64);
+        print_number(b" at ", refused.place as u64);
     }
     print(b"\n");
 }

@@ -11,7 +11,7 @@ use Rattle.header_round_trips.proofs.Marked.{header-cases}
 use Rattle.image.specs.Verdict.{checkOf}
 use Rattle.image.proofs.Verdicts.{check-reads-firmware}
 use Rattle.delivered.specs.Demand.{Demand3, Demand3Ongoing}
-use Rattle.delivered.specs.MarkedCases.{ofExchange, ofHeader, Holds, MarkedCases}
+use Rattle.delivered.specs.MarkedCases.{ofExchange, ofHeader, MarkedCaseHolds, MarkedCases}
 
 -- the delivered check reads the firmware sectors and nothing else
 pub reads-firmware : (g : Geometry) → ReadsFirmware checkOf g
@@ -25,6 +25,6 @@ demand-3-ongoing-delivered x g old f a ongoing es allowed = demand-3-ongoing che
 
 pub marked-cases : MarkedCases
 marked-cases =
-    every-append Holds (map ofExchange exchangeCases) (map ofHeader headerCases)
-    (every-map ofExchange Holds exchangeCases (marked-exchange checkOf (reads-firmware three)))
-    (every-map ofHeader Holds headerCases header-cases)
+    every-append MarkedCaseHolds (map ofExchange exchangeCases) (map ofHeader headerCases)
+    (every-map ofExchange MarkedCaseHolds exchangeCases (marked-exchange checkOf (reads-firmware three)))
+    (every-map ofHeader MarkedCaseHolds headerCases header-cases)

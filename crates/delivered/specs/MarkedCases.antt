@@ -13,9 +13,9 @@ pub data MarkedCase : Type 0 where
   ofHeader : HeaderCase → MarkedCase
 
 -- What a case says, of the delivered check.
-abbrev pub Holds : MarkedCase → Type 0
-Holds (ofExchange c) = exchange.Holds checkOf c
-Holds (ofHeader c) = header.Holds c
+abbrev pub MarkedCaseHolds : MarkedCase → Type 0
+MarkedCaseHolds (ofExchange c) = exchange.ExchangeCaseHolds checkOf c
+MarkedCaseHolds (ofHeader c) = header.Holds c
 
 -- The one list.
 abbrev pub markedCases : List MarkedCase
@@ -23,4 +23,4 @@ markedCases = map ofExchange exchangeCases ++ map ofHeader headerCases
 
 -- The one claim over it.
 abbrev pub MarkedCases : Type 0
-MarkedCases = Every Holds markedCases
+MarkedCases = Every MarkedCaseHolds markedCases

@@ -6,7 +6,7 @@ use native.Mathlib.Decide.{decLt}
 use native.Mathlib.Omega.{arith}
 use lib.Dec.{ltb}
 use borrow.Author.Tests.{lt-ltb, le-ltb}
-use Rattle.numbers.specs.Answer.{Answer, gives, refused}
+use Rattle.numbers.specs.Answer.{Answer, gives, refused, because, noReason, Refusal, numbered}
 use Rattle.flash.specs.declared.Geometry.{Geometry}
 use Rattle.flash.specs.Buffers.{Flash, fits}
 use Rattle.flash_status.specs.declared.BootStatus.{BootStatus}
@@ -18,7 +18,7 @@ use Rattle.flash_flags.specs.declared.Flags.the-variants.{AllF}
 use Rattle.flash_status.specs.StatusBytes.{bootStatusAt, updateStatusAt}
 use Rattle.flash_flags.specs.SectorFlags.{flagsAt}
 use Rattle.exchange.specs.declared.Job.the-variants.{Update, Fallback, TurnDown}
-use Rattle.exchange.specs.Decision.{Check, because, noReason, Plan, refuse, plain, work, accept, acceptFallback, decideBy, decideStatuses, decide, Good}
+use Rattle.exchange.specs.Decision.{Check, Plan, refuse, plain, work, accept, acceptFallback, decideBy, decideStatuses, decide, Good}
 use Rattle.exchange.specs.Demand.{Exchange, update, fallback, jobOf, Underway, from-new, from-success, from-testing, Starts}
 use Rattle.exchange.specs.RuledOut.{Newer}
 
@@ -46,15 +46,15 @@ pub record Accepted (check : Check) (x : Exchange) (g : Geometry) (f : Flash) : 
 
 -- ---- what decides for an exchange
 
-refused-no-work : (x : Exchange) {n i p : ℕ} → refuse n i p ≡ work (jobOf x) noReason → ⊥
+refused-no-work : (x : Exchange) {r : Refusal} → refuse r ≡ work (jobOf x) noReason → ⊥
 refused-no-work x e = let z : _≡_ {A = ℕ} 0 1 = cc in omega arith
 
 plain-no-work : (x : Exchange) → plain ≡ work (jobOf x) noReason → ⊥
 plain-no-work x e = let z : _≡_ {A = ℕ} 0 1 = cc in omega arith
 
-cond-work : (b : Bool) (y : Plan) (n i p : ℕ) (x : Exchange) → cond b y (refuse n i p) ≡ work (jobOf x) noReason → (b ≡ true) × (y ≡ work (jobOf x) noReason)
-cond-work true y n i p x e = (refl, e)
-cond-work false y n i p x e = absurd (refused-no-work x e)
+cond-work : (b : Bool) (y : Plan) (r : Refusal) (x : Exchange) → cond b y (refuse r) ≡ work (jobOf x) noReason → (b ≡ true) × (y ≡ work (jobOf x) noReason)
+cond-work true y r x e = (refl, e)
+cond-work false y r x e = absurd (refused-no-work x e)
 
 -- a version that is not greater turns the update down
 pub not-newer : (v w : ℕ) → v ≤ w → accept (gives v) (gives w) ≡ work TurnDown (because 15 0)
@@ -114,7 +114,7 @@ pub accepted : (check : Check) (x : Exchange) (g : Geometry) (f : Flash) → Sta
 unfolding decide
 accepted check x g f s =
     let k = cond-work (fits g f)
-    (decideStatuses (bootStatusAt g (f .boot)) (updateStatusAt g (f .update)) (flagsAt g (f .update)) (check g (f .update)) (check g (f .boot))) 1 0 0 x (s .decided) in
+    (decideStatuses (bootStatusAt g (f .boot)) (updateStatusAt g (f .update)) (flagsAt g (f .update)) (check g (f .update)) (check g (f .boot))) (numbered 1 0) x (s .decided) in
     let t : Both x (bootStatusAt g (f .boot)) (updateStatusAt g (f .update)) (check g (f .update)) (check g (f .boot))
     = by-answers x (bootStatusAt g (f .boot)) (updateStatusAt g (f .update)) (check g (f .update)) (check g (f .boot))
     (ap (λ (v : Flags). decideStatuses (bootStatusAt g (f .boot)) (updateStatusAt g (f .update)) v (check g (f .update)) (check g (f .boot))) (sym (s .flagsF)) ∙ k .1) in

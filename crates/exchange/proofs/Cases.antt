@@ -8,7 +8,7 @@ use native.Mathlib.Omega.{arith}
 use lib.ListN.{getD}
 use lib.Dec.{leb, ltb, eqb}
 use borrow.Author.Tests.{eqb-true, lt-leb, le-leb, lt-ltb, le-ltb}
-use Rattle.numbers.specs.Answer.{Answer, gives, refused}
+use Rattle.numbers.specs.Answer.{Answer, gives, refused, noReason, Refusal, numberOf}
 use Rattle.flash.specs.Sizes.{firmware, Limits}
 use Rattle.flash.specs.Buffers.{Flash, Shaped, fits}
 use Rattle.flash_status.specs.declared.BootStatus.{BootStatus}
@@ -25,11 +25,11 @@ use Rattle.exchange.specs.declared.Next.{Next}
 use Rattle.exchange.specs.declared.Next.the-variants.{Do, Nothing}
 use Rattle.exchange.specs.declared.Job.the-variants.{Update}
 use Rattle.exchange.specs.Order.{nextOperation, Run, run}
-use Rattle.exchange.specs.Decision.{Check, noReason, work, decideBy, decide}
-use Rattle.exchange.specs.PowerUp.{Outcome, refusal, cut, PowerUp, doneOutcome, outcomeBy, worked, powerUp}
+use Rattle.exchange.specs.Decision.{Check, work, decideBy, decide}
+use Rattle.exchange.specs.PowerUp.{Outcome, refusal, cut, runs, runsOnTest, runsFallenBack, PowerUp, doneOutcome, outcomeBy, worked, powerUp}
 use Rattle.exchange.specs.Demand.{Exchange, update, fallback, jobOf, ReadsFirmware, Underway, from-new, from-success, from-testing}
 use Rattle.numbers.specs.Every.{Every}
-use Rattle.exchange.specs.Cases.{three, flagByteOf, after, counts, lastOutcome, Leaves, ExchangeCase, powerUps, malformed, FlagByteIs, LeavesAs, Holds, exchangeCases, MarkedExchange}
+use Rattle.exchange.specs.Cases.{three, flagByteOf, after, counts, lastOutcome, Leaves, ExchangeCase, powerUps, malformed, FlagByteIs, LeavesAs, ExchangeCaseHolds, exchangeCases, MarkedExchange}
 use Rattle.flash.proofs.Checked.{shaped-of}
 use Rattle.flash_flags.proofs.Moves.{legMoves, leg-below}
 use Rattle.exchange.proofs.Orders.{decide-by-reads}
@@ -295,12 +295,12 @@ from-start check x f R {b} {u} B fit e₁ e₂ e₃ I top bs y a =
     predicted check f (s .limits) B (old-runs check three f R (s .update) (update-good x (check three (f .update)) (check three (f .boot)) I)) top bs y
     (subst (λ (n : ℕ). Stage (Decides check three B) three f B f 0 n) z (v .stage)) a
 
-update-case : (check : Check) → ReadsFirmware check three → (bs : List ℕ) (y : Leaves) → Predicted update 3 21 bs y → Holds check (powerUps update bs y)
+update-case : (check : Check) → ReadsFirmware check three → (bs : List ℕ) (y : Leaves) → Predicted update 3 21 bs y → ExchangeCaseHolds check (powerUps update bs y)
 update-case check R bs y a f r =
     from-start check update f R from-success (r .fit) (r .bootIs) (r .updateIs) (r .flagsF)
     (record { new = r .newVersion; old = r .oldVersion; updateGood = r .updateGood; bootGood = r .bootGood; newer = r .newer }) top-update bs y a
 
-fallback-case : (check : Check) → ReadsFirmware check three → (bs : List ℕ) (y : Leaves) → Predicted fallback 1 19 bs y → Holds check (powerUps fallback bs y)
+fallback-case : (check : Check) → ReadsFirmware check three → (bs : List ℕ) (y : Leaves) → Predicted fallback 1 19 bs y → ExchangeCaseHolds check (powerUps fallback bs y)
 fallback-case check R bs y a f r =
     from-start check fallback f R from-testing (r .fit) (r .bootIs) (r .updateIs) (r .flagsF) (record { version = r .version; good = r .updateGood }) top-fallback bs y a
 
@@ -313,10 +313,18 @@ flags-by-byte : (u : List ℕ) (b : ℕ) → getD u 766 0 ≡ b → flagsAt thre
 unfolding flagsAt flags flagsFrom flagAt flagByte half firmware
 flags-by-byte u b e = rw e refl
 
-not-11 : (o : Next) (v : Answer ℕ) (i p : ℕ) → outcomeBy o Update v ≡ refusal 11 i p → ⊥
-not-11 Nothing (gives v) i p e = let z : _≡_ {A = ℕ} 0 1 = cc in omega arith
-not-11 Nothing (refused n q) i p e = let z : _≡_ {A = ℕ} 12 11 = cc in omega arith
-not-11 (Do o) v i p e = let z : _≡_ {A = ℕ} 0 1 = cc in omega arith
+-- an outcome's number; 0 stands for none
+abbrev outcomeNumber : Outcome → ℕ
+outcomeNumber (refusal r) = numberOf r
+outcomeNumber cut = 0
+outcomeNumber runs = 0
+outcomeNumber runsOnTest = 0
+outcomeNumber runsFallenBack = 0
+
+not-11 : (o : Next) (v : Answer ℕ) (r : Refusal) → numberOf r ≡ 11 → outcomeBy o Update v ≡ refusal r → ⊥
+not-11 Nothing (gives v) r n e = let z : _≡_ {A = ℕ} 0 11 = ap outcomeNumber e ∙ n in omega arith
+not-11 Nothing (refused m q) r n e = let z : _≡_ {A = ℕ} 12 11 = ap outcomeNumber e ∙ n in omega arith
+not-11 (Do o) v r n e = let z : _≡_ {A = ℕ} 0 11 = ap outcomeNumber e ∙ n in omega arith
 
 -- an exchange that has begun
 abbrev Resumes : Flags → Type 0
@@ -339,13 +347,13 @@ Agrees (powerUps fallback bs y) = Predicted fallback 1 19 bs y
 Agrees (malformed b true) = shownBy b ≡ Malformed
 Agrees (malformed b false) = Resumes (shownBy b)
 
-law : (check : Check) → ReadsFirmware check three → (c : ExchangeCase) → Agrees c → Holds check c
+law : (check : Check) → ReadsFirmware check three → (c : ExchangeCase) → Agrees c → ExchangeCaseHolds check c
 unfolding powerUp decide
 law check R (powerUps update bs y) a = update-case check R bs y a
 law check R (powerUps fallback bs y) a = fallback-case check R bs y a
 law check R (malformed b true) a = λ f budget fit e₁ e₂ e. rw (fit, e₁, e₂, flags-by-byte (f .update) b e ∙ a) refl
-law check R (malformed b false) a = λ f budget fit e₁ e₂ e i p k.
-    not-11 (nextOperation Update three ((run Update three budget 0 f) .phase) ((run Update three budget 0 f) .flash)) (check three ((run Update three budget 0 f) .flash .boot)) i p
+law check R (malformed b false) a = λ f budget fit e₁ e₂ e r n k.
+    not-11 (nextOperation Update three ((run Update three budget 0 f) .phase) ((run Update three budget 0 f) .flash)) (check three ((run Update three budget 0 f) .flash .boot)) r n
     (rw (fit, e₁, e₂, flags-by-byte (f .update) b e, resumes-update (shownBy b) (check three (f .update)) (check three (f .boot)) a) at k)
 
 -- the numbers are computed
@@ -359,4 +367,4 @@ agreed =
     (computed _ _ _ _ _ refl refl refl (omega arith, refl) refl refl, (computed _ _ _ _ _ refl refl refl (omega arith, refl) refl refl, (computed _ _ _ _ _ refl refl refl (omega arith, refl) refl refl, (computed _ _ _ _ _ refl refl refl (omega arith, refl) refl refl, (computed _ _ _ _ _ refl refl refl (omega arith, refl) refl refl, (computed _ _ _ _ _ refl refl refl (omega arith, refl) refl refl, (computed _ _ _ _ _ refl refl refl tt refl refl, (computed _ _ _ _ _ refl refl refl tt refl refl, (computed _ _ _ _ _ refl refl refl tt refl refl, (computed _ _ _ _ _ refl refl refl (omega arith, refl) refl refl, (computed _ _ _ _ _ refl refl refl tt refl refl, (refl, (tt, tt)))))))))))))
 
 pub marked-exchange : MarkedExchange
-marked-exchange check R = every Agrees (Holds check) (law check R) exchangeCases agreed
+marked-exchange check R = every Agrees (ExchangeCaseHolds check) (law check R) exchangeCases agreed

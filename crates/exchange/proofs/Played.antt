@@ -6,7 +6,7 @@ use Prim.Native.Nat.{ℕ, zero, suc, _+_, _-_, _*_, _≤_, _<_}
 use native.Mathlib.Decide.{decLt}
 use native.Mathlib.Omega.{arith}
 use lib.ListN.{length}
-use Rattle.numbers.specs.Answer.{Answer}
+use Rattle.numbers.specs.Answer.{Answer, noReason, numbered}
 use Rattle.flash.specs.declared.Geometry.{Geometry}
 use Rattle.flash.specs.Sizes.{firmware, partitionSize, Limits}
 use Rattle.flash.specs.Buffers.{Flash, Shaped, fits}
@@ -17,7 +17,7 @@ use Rattle.exchange.specs.declared.Next.the-variants.{Nothing}
 use Rattle.exchange.specs.declared.Area.the-variants.{Boot, Update}
 use Rattle.exchange.specs.Operations.{get}
 use Rattle.exchange.specs.Order.{nextOperation, Run, run}
-use Rattle.exchange.specs.Decision.{Check, noReason, refuse, decide, Good}
+use Rattle.exchange.specs.Decision.{Check, refuse, decide, Good}
 use Rattle.exchange.specs.PowerUp.{refusal, PowerUp, outcomeBy, worked, idle, carryOut, powerUp, nextIn, nextAfter}
 use Rattle.exchange.specs.LostPower.{Torn, tearNext}
 use Rattle.exchange.specs.Demand.{Exchange, update, jobOf, ReadsFirmware, Finished, untorn, lost, Event, Left, leftUntorn, left, flashLeft, EndsAsAllowed, FlagMovedOn, IsRefusal, MovesOn, CutOrDone, Answers, Underway}
@@ -39,7 +39,7 @@ old-runs check g old R l y f s h =
     record { version = y .version; good = R (f .boot) (old .update) (s .boot) l (sectors-front (g .size) (firmware g) (f .boot) (old .update) h) ∙ y .good }
 
 -- a wrong geometry: refusal 1
-wrong : (check : Check) (g : Geometry) (f : Flash) → fits g f ≡ false → decide check g f ≡ refuse 1 0 0
+wrong : (check : Check) (g : Geometry) (f : Flash) → fits g f ≡ false → decide check g f ≡ refuse (numbered 1 0)
 unfolding decide
 wrong check g f e = rw e refl
 
@@ -62,7 +62,7 @@ module _ (check : Check) (g : Geometry) (G : Limits g) (old : Flash) {x : Exchan
 
   -- ---- refused
   module _ (g′ : Geometry) (f : Flash) (r : ℕ) (s : Stage (Decides check g B) g old B f 0 (suc r)) (w : fits g′ f ≡ false) where
-    refuses : (k : ℕ) → powerUp check g′ f k ≡ idle (refusal 1 0 0) f
+    refuses : (k : ℕ) → powerUp check g′ f k ≡ idle (refusal (numbered 1 0)) f
     unfolding powerUp
     refuses k = ap (carryOut check g′ f k) (wrong check g′ f w)
 

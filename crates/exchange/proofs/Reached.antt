@@ -4,7 +4,7 @@ use mathlib.Core.List.{List, [], _∷_}
 use Prim.Native.Nat.{ℕ, zero, suc, _+_, _-_, _*_, _≤_}
 use native.Mathlib.Omega.{arith}
 use lib.ListN.{length}
-use Rattle.numbers.specs.Answer.{gives}
+use Rattle.numbers.specs.Answer.{gives, noReason, numbered}
 use Rattle.flash.specs.declared.Geometry.{Geometry}
 use Rattle.flash.specs.Sizes.{geometry, withinLimits, firmware, Limits}
 use Rattle.flash.specs.Sectors.{sectorNumber}
@@ -21,7 +21,7 @@ use Rattle.exchange.specs.declared.Next.{Next}
 use Rattle.exchange.specs.declared.Next.the-variants.{Do}
 use Rattle.exchange.specs.Operations.{perform}
 use Rattle.exchange.specs.Order.{nextOperation, Run, run}
-use Rattle.exchange.specs.Decision.{Check, noReason, decide}
+use Rattle.exchange.specs.Decision.{Check, decide}
 use Rattle.exchange.specs.PowerUp.{refusal, PowerUp, idle, powerUp, nextAfter}
 use Rattle.exchange.specs.LostPower.{Torn, tearNext}
 use Rattle.exchange.specs.Demand.{Exchange, jobOf, Ongoing, Finished, untorn, lost, Event, left, Allowed, flashAfter, Underway, from-new, from-success, from-testing}
@@ -36,7 +36,7 @@ use Rattle.exchange.proofs.Decided.{Decides, decided}
 use Rattle.exchange.proofs.Played.{OldRuns, old-runs, works, next-in, Played, played}
 use Rattle.exchange.proofs.Whole.{closing-most, Again, again, Begins, begins, starts-ongoing}
 
-no-sectors : (check : Check) (f : Flash) (budget : ℕ) → powerUp check (geometry 0 0) f budget ≡ idle (refusal 1 0 0) f
+no-sectors : (check : Check) (f : Flash) (budget : ℕ) → powerUp check (geometry 0 0) f budget ≡ idle (refusal (numbered 1 0)) f
 unfolding powerUp decide fits partitionFits withinLimits
 no-sectors check f budget = refl
 

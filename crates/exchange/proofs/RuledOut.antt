@@ -7,7 +7,7 @@ use Prim.Native.Nat.{ℕ, zero, suc, _≤_}
 use native.Mathlib.Omega.{arith}
 use lib.ListN.{length, take}
 use lib.Dec.{ltb, eqb}
-use Rattle.numbers.specs.Answer.{Answer, gives, refused}
+use Rattle.numbers.specs.Answer.{Answer, gives, refused, Refusal, numbered, inside, numberOf, Reason, noReason, because}
 use Rattle.flash.specs.declared.Geometry.{Geometry}
 use Rattle.flash.specs.declared.SectorNumber.{SectorNumber}
 use Rattle.flash.specs.Sectors.{sectorNumber}
@@ -34,10 +34,10 @@ use Rattle.exchange.specs.declared.Job.{Job}
 use Rattle.exchange.specs.declared.Job.the-variants.{Update, Fallback, TurnDown}
 use Rattle.exchange.specs.Operations.{target, perform, performAll}
 use Rattle.exchange.specs.Order.{nextOperation, Run, stopped, oneMore, run}
-use Rattle.exchange.specs.Decision.{Check, Good, Reason, because, noReason, Plan, refuse, plain, work, accept, decideUpdate, decideFallback, decideClosing, decideBy, decideStatuses, decide}
-use Rattle.exchange.specs.PowerUp.{Outcome, refusal, runs, PowerUp, ifBootGood, doneOutcome, outcomeBy, idle, carryOut, powerUp, operationsIn, operationsOf}
+use Rattle.exchange.specs.Decision.{Check, Good, Plan, refuse, plain, work, accept, decideUpdate, decideFallback, decideClosing, decideBy, decideStatuses, decide}
+use Rattle.exchange.specs.PowerUp.{Outcome, refusal, cut, runs, runsOnTest, runsFallenBack, PowerUp, ifBootGood, doneOutcome, outcomeBy, idle, carryOut, powerUp, operationsIn, operationsOf}
 use Rattle.exchange.specs.Demand.{Exchange, update, fallback, jobOf, Starts, Underway, from-new, from-success, from-testing}
-use Rattle.exchange.specs.RuledOut.{Reads, IsRun, TurnedDown, BeforeWork, outsideRules, statusNotAllowed, flagsNotWellFormed, noGoodFallback, RefusedBefore, RuledOut}
+use Rattle.exchange.specs.RuledOut.{Reads, IsRun, BadBoot, badBoot, TurnedDown, BeforeWork, outsideRules, statusNotAllowed, flagsNotWellFormed, noGoodFallback, RefusedBefore, RuledOut}
 use Rattle.flash.proofs.Checked.{shaped-of}
 use Rattle.flash_flags.proofs.Laws.{update-erased}
 use Rattle.exchange.proofs.Orders.{next-by-reads, decide-by-reads}
@@ -100,7 +100,7 @@ unchecked-statuses (gives b) (gives u) v y z y′ z′ h = unchecked-by b u v y 
 unchecked : (check check′ : Check) (g : Geometry) (f : Flash) → flagsAt g (f .update) ≢ AllF → decide check g f ≡ decide check′ g f
 unfolding decide
 unchecked check check′ g f h =
-    ap (λ (y : Plan). cond (fits g f) y (refuse 1 0 0))
+    ap (λ (y : Plan). cond (fits g f) y (refuse (numbered 1 0)))
     (unchecked-statuses (bootStatusAt g (f .boot)) (updateStatusAt g (f .update)) (flagsAt g (f .update)) (check g (f .update)) (check g (f .boot))
     (check′ g (f .update)) (check′ g (f .boot)) h)
 
@@ -148,7 +148,7 @@ top-first check x g f s =
 -- ---- the budget
 
 carried-within : (check : Check) (g : Geometry) (f : Flash) (budget : ℕ) (y : Plan) → (carryOut check g f budget y) .count ≤ budget
-carried-within check g f budget (refuse n i p) = omega arith
+carried-within check g f budget (refuse r) = omega arith
 carried-within check g f budget plain = omega arith
 carried-within check g f budget (work job why) = run-within job g budget 0 f
 
@@ -159,12 +159,12 @@ within check g f budget = carried-within check g f budget (decide check g f)
 -- ---- the operations that were done
 
 carried-counts : (check : Check) (g : Geometry) (f : Flash) (budget : ℕ) (y : Plan) → (carryOut check g f budget y) .count ≡ length (operationsIn g f budget y)
-carried-counts check g f budget (refuse n i p) = refl
+carried-counts check g f budget (refuse r) = refl
 carried-counts check g f budget plain = refl
 carried-counts check g f budget (work job why) = run-count job g budget 0 f
 
 carried-performs : (check : Check) (g : Geometry) (f : Flash) (budget : ℕ) (y : Plan) → (carryOut check g f budget y) .flash ≡ performAll g (operationsIn g f budget y) f
-carried-performs check g f budget (refuse n i p) = refl
+carried-performs check g f budget (refuse r) = refl
 carried-performs check g f budget plain = refl
 carried-performs check g f budget (work job why) = run-flash job g budget 0 f
 
@@ -173,7 +173,7 @@ none-first zero = refl
 none-first (suc k) = refl
 
 first-in : (g : Geometry) (f : Flash) (k budget : ℕ) (y : Plan) → k ≤ budget → operationsIn g f k y ≡ take k (operationsIn g f budget y)
-first-in g f k budget (refuse n i p) h = none-first k
+first-in g f k budget (refuse r) h = none-first k
 first-in g f k budget plain h = none-first k
 first-in g f k budget (work job why) h = operations-first job g k budget 0 f h
 
@@ -201,7 +201,7 @@ good-after Nothing job y h = good-runs (doneOutcome job) y h
 
 carried-good : (check : Check) (g : Geometry) (f : Flash) (budget : ℕ) (y : Plan) → IsRun ((carryOut check g f budget y) .outcome)
     → Good (check g ((carryOut check g f budget y) .flash .boot))
-carried-good check g f budget (refuse n i p) h = absurd h
+carried-good check g f budget (refuse r) h = absurd h
 carried-good check g f budget plain h = good-runs runs (check g (f .boot)) h
 carried-good check g f budget (work job why) h =
     let w : Run = run job g budget 0 f in good-after (nextOperation job g (w .phase) (w .flash)) job (check g (w .flash .boot)) h
@@ -214,92 +214,101 @@ what-runs check g f budget h = carried-good check g f budget (decide check g f) 
 -- ---- refusal 11
 
 -- refusal 11 by what is read
-eleven : (check : Check) (g : Geometry) (f : Flash) (budget : ℕ) → decide check g f ≡ refuse 11 0 0 → powerUp check g f budget ≡ idle (refusal 11 0 0) f
+eleven : (check : Check) (g : Geometry) (f : Flash) (budget : ℕ) → decide check g f ≡ refuse (numbered 11 0) → powerUp check g f budget ≡ idle (refusal (numbered 11 0)) f
 unfolding powerUp
 eleven check g f budget e = ap (carryOut check g f budget) e
 
-not-closing : (v : Flags) → v ≢ All0 → decideClosing v ≡ refuse 11 0 0
+not-closing : (v : Flags) → v ≢ All0 → decideClosing v ≡ refuse (numbered 11 0)
 not-closing Malformed h = refl
 not-closing AllF h = refl
 not-closing (At i leg) h = refl
 not-closing All0 h = absurd (h refl)
 
-malformed-11 : {x : Exchange} {b : BootStatus} {u : UpdateStatus} → Underway x b u → (y z : Answer ℕ) → decideBy b u Malformed y z ≡ refuse 11 0 0
+malformed-11 : {x : Exchange} {b : BootStatus} {u : UpdateStatus} → Underway x b u → (y z : Answer ℕ) → decideBy b u Malformed y z ≡ refuse (numbered 11 0)
 malformed-11 from-new y z = refl
 malformed-11 from-success y z = refl
 malformed-11 from-testing y z = refl
 
 -- ---- the plans that there are, by the lengths and the statuses
 
-data Planned (fit : Bool) (bs : Answer BootStatus) (us : Answer UpdateStatus) : Plan → Type 0 where
-  refuses : (n i p : ℕ) → BeforeWork n ⊎ (n ≡ 12) → Planned fit bs us (refuse n i p)
-  goes-plain : Planned fit bs us plain
-  exchanges : (x : Exchange) → Planned fit bs us (work (jobOf x) noReason)
-  turns-down : (b : BootStatus) (n p : ℕ) → fit ≡ true → bs ≡ gives b → us ≡ gives Updating → Planned fit bs us (work TurnDown (because n p))
+data Planned (fit : Bool) (bs : Answer BootStatus) (us : Answer UpdateStatus) (y z : Answer ℕ) : Plan → Type 0 where
+  refuses : (r : Refusal) → BeforeWork y r ⊎ BadBoot z r → Planned fit bs us y z (refuse r)
+  goes-plain : Planned fit bs us y z plain
+  exchanges : (x : Exchange) → Planned fit bs us y z (work (jobOf x) noReason)
+  turns-down : (b : BootStatus) (n p : ℕ) → fit ≡ true → bs ≡ gives b → us ≡ gives Updating → Planned fit bs us y z (work TurnDown (because n p))
 
 module _ (fit : Bool) (bs : Answer BootStatus) (us : Answer UpdateStatus) (e : fit ≡ true) where
-  by-images : (b : BootStatus) → bs ≡ gives b → us ≡ gives Updating → (y z : Answer ℕ) → Planned fit bs us (accept y z)
+  by-images : (b : BootStatus) → bs ≡ gives b → us ≡ gives Updating → (y z : Answer ℕ) → Planned fit bs us y z (accept y z)
   by-images b e₁ e₂ (refused n p) z = turns-down b n p e e₁ e₂
-  by-images b e₁ e₂ (gives v) (refused n p) = refuses 12 n p (inr refl)
+  by-images b e₁ e₂ (gives v) (refused n p) = refuses (inside 12 n p) (inr (badBoot n p refl))
   by-images b e₁ e₂ (gives v) (gives w) = by (ltb w v)
     where
-      by : (t : Bool) → Planned fit bs us (cond t (work Update noReason) (work TurnDown (because 15 0)))
+      by : (t : Bool) → Planned fit bs us (gives v) (gives w) (cond t (work Update noReason) (work TurnDown (because 15 0)))
       by true = exchanges update
       by false = turns-down b 15 0 e e₁ e₂
 
-  by-update : (b : BootStatus) → bs ≡ gives b → us ≡ gives Updating → (v : Flags) (y z : Answer ℕ) → Planned fit bs us (decideUpdate v y z)
-  by-update b e₁ e₂ Malformed y z = refuses 11 0 0 (inl flagsNotWellFormed)
+  by-update : (b : BootStatus) → bs ≡ gives b → us ≡ gives Updating → (v : Flags) (y z : Answer ℕ) → Planned fit bs us y z (decideUpdate v y z)
+  by-update b e₁ e₂ Malformed y z = refuses (numbered 11 0) (inl flagsNotWellFormed)
   by-update b e₁ e₂ AllF y z = by-images b e₁ e₂ y z
   by-update b e₁ e₂ (At i leg) y z = exchanges update
   by-update b e₁ e₂ All0 y z = exchanges update
 
-  by-fallback : (v : Flags) (y : Answer ℕ) → Planned fit bs us (decideFallback v y)
-  by-fallback Malformed y = refuses 11 0 0 (inl flagsNotWellFormed)
-  by-fallback AllF (gives v) = exchanges fallback
-  by-fallback AllF (refused n p) = refuses 13 n p (inl noGoodFallback)
-  by-fallback (At i leg) y = exchanges fallback
-  by-fallback All0 y = exchanges fallback
+  by-fallback : (v : Flags) (y z : Answer ℕ) → Planned fit bs us y z (decideFallback v y)
+  by-fallback Malformed y z = refuses (numbered 11 0) (inl flagsNotWellFormed)
+  by-fallback AllF (gives v) z = exchanges fallback
+  by-fallback AllF (refused n p) z = refuses (inside 13 n p) (inl (noGoodFallback n p refl))
+  by-fallback (At i leg) y z = exchanges fallback
+  by-fallback All0 y z = exchanges fallback
 
-  by-closing : (v : Flags) → Planned fit bs us (decideClosing v)
-  by-closing Malformed = refuses 11 0 0 (inl flagsNotWellFormed)
-  by-closing AllF = refuses 11 0 0 (inl flagsNotWellFormed)
-  by-closing (At i leg) = refuses 11 0 0 (inl flagsNotWellFormed)
-  by-closing All0 = exchanges update
+  by-closing : (v : Flags) (y z : Answer ℕ) → Planned fit bs us y z (decideClosing v)
+  by-closing Malformed y z = refuses (numbered 11 0) (inl flagsNotWellFormed)
+  by-closing AllF y z = refuses (numbered 11 0) (inl flagsNotWellFormed)
+  by-closing (At i leg) y z = refuses (numbered 11 0) (inl flagsNotWellFormed)
+  by-closing All0 y z = exchanges update
 
-  by-both : (b : BootStatus) (u : UpdateStatus) → bs ≡ gives b → us ≡ gives u → (v : Flags) (y z : Answer ℕ) → Planned fit bs us (decideBy b u v y z)
+  by-both : (b : BootStatus) (u : UpdateStatus) → bs ≡ gives b → us ≡ gives u → (v : Flags) (y z : Answer ℕ) → Planned fit bs us y z (decideBy b u v y z)
   by-both BootNew UpdateNew e₁ e₂ v y z = goes-plain
   by-both Success UpdateNew e₁ e₂ v y z = goes-plain
-  by-both Testing UpdateNew e₁ e₂ v y z = by-fallback v y
+  by-both Testing UpdateNew e₁ e₂ v y z = by-fallback v y z
   by-both BootNew Updating e₁ e₂ v y z = by-update BootNew e₁ e₂ v y z
   by-both Success Updating e₁ e₂ v y z = by-update Success e₁ e₂ v y z
-  by-both Testing Updating e₁ e₂ v y z = by-closing v
+  by-both Testing Updating e₁ e₂ v y z = by-closing v y z
+
+-- an answer's refusal, as power-up gives it; 0 stands for none
+abbrev asRefusal : {A : Type 0} → Answer A → Refusal
+asRefusal (gives a) = numbered 0 0
+asRefusal (refused n p) = numbered n p
 
 -- a status that is not allowed is 10
-boot-ten : (a : BootStatusAnswer) (n p : ℕ) → bootStatusAnswer a ≡ refused n p → 10 ≡ n
+boot-ten : (a : BootStatusAnswer) (n p : ℕ) → bootStatusAnswer a ≡ refused n p → numbered 10 0 ≡ numbered n p
 boot-ten (Boot b) n p e = absurd (let z : _≡_ {A = ℕ} 0 1 = cc in omega arith)
-boot-ten BootNotAllowed n p e = cc
+boot-ten BootNotAllowed n p e = ap asRefusal e
 
-update-ten : (a : UpdateStatusAnswer) (n p : ℕ) → updateStatusAnswer a ≡ refused n p → 10 ≡ n
+update-ten : (a : UpdateStatusAnswer) (n p : ℕ) → updateStatusAnswer a ≡ refused n p → numbered 10 0 ≡ numbered n p
 update-ten (UpdateIs u) n p e = absurd (let z : _≡_ {A = ℕ} 0 1 = cc in omega arith)
-update-ten UpdateNotAllowed n p e = cc
+update-ten UpdateNotAllowed n p e = ap asRefusal e
 
-boot-status-ten : (c n p : ℕ) → bootStatusOf c ≡ refused n p → 10 ≡ n
+boot-status-ten : (c n p : ℕ) → bootStatusOf c ≡ refused n p → numbered 10 0 ≡ numbered n p
 unfolding bootStatusOf
 boot-status-ten c n p e =
     boot-ten (cond (eqb c (bootByte BootNew)) (Boot BootNew) (cond (eqb c (bootByte Testing)) (Boot Testing) (cond (eqb c (bootByte Success)) (Boot Success) BootNotAllowed))) n p e
 
-update-status-ten : (c n p : ℕ) → updateStatusOf c ≡ refused n p → 10 ≡ n
+update-status-ten : (c n p : ℕ) → updateStatusOf c ≡ refused n p → numbered 10 0 ≡ numbered n p
 unfolding updateStatusOf
 update-status-ten c n p e =
     update-ten (cond (eqb c (updateByte UpdateNew)) (UpdateIs UpdateNew) (cond (eqb c (updateByte Updating)) (UpdateIs Updating) UpdateNotAllowed)) n p e
 
-by-answers : (fit : Bool) (bs : Answer BootStatus) (us : Answer UpdateStatus) → fit ≡ true → ((n p : ℕ) → bs ≡ refused n p → 10 ≡ n)
-    → ((n p : ℕ) → us ≡ refused n p → 10 ≡ n) → (v : Flags) (y z : Answer ℕ) → Planned fit bs us (decideStatuses bs us v y z)
-by-answers fit (refused n p) us e h k v y z = refuses n 0 0 (inl (subst BeforeWork (h n p refl) statusNotAllowed))
-by-answers fit (gives b) (refused n p) e h k v y z = refuses n 0 0 (inl (subst BeforeWork (k n p refl) statusNotAllowed))
+by-answers : (fit : Bool) (bs : Answer BootStatus) (us : Answer UpdateStatus) → fit ≡ true → ((n p : ℕ) → bs ≡ refused n p → numbered 10 0 ≡ numbered n p)
+    → ((n p : ℕ) → us ≡ refused n p → numbered 10 0 ≡ numbered n p) → (v : Flags) (y z : Answer ℕ) → Planned fit bs us y z (decideStatuses bs us v y z)
+by-answers fit (refused n p) us e h k v y z = refuses (numbered n p) (inl (subst (BeforeWork y) (h n p refl) statusNotAllowed))
+by-answers fit (gives b) (refused n p) e h k v y z = refuses (numbered n p) (inl (subst (BeforeWork y) (k n p refl) statusNotAllowed))
 by-answers fit (gives b) (gives u) e h k v y z = by-both fit (gives b) (gives u) e b u refl refl v y z
 
-planned : (check : Check) (g : Geometry) (f : Flash) → Planned (fits g f) (bootStatusAt g (f .boot)) (updateStatusAt g (f .update)) (decide check g f)
+-- the plan of a flash, by what is read and checked there
+abbrev PlannedOf : Check → Geometry → Flash → Plan → Type 0
+PlannedOf check g f y = Planned (fits g f) (bootStatusAt g (f .boot)) (updateStatusAt g (f .update)) (check g (f .update)) (check g (f .boot)) y
+
+planned : (check : Check) (g : Geometry) (f : Flash) → PlannedOf check g f (decide check g f)
 unfolding decide
 planned check g f = by (fits g f) refl
   where
@@ -309,10 +318,16 @@ planned check g f = by (fits g f) refl
     us : Answer UpdateStatus
     us = updateStatusAt g (f .update)
 
-    by : (t : Bool) → t ≡ t → Planned t bs us (cond t (decideStatuses bs us (flagsAt g (f .update)) (check g (f .update)) (check g (f .boot))) (refuse 1 0 0))
+    y : Answer ℕ
+    y = check g (f .update)
+
+    z : Answer ℕ
+    z = check g (f .boot)
+
+    by : (t : Bool) → t ≡ t → Planned t bs us y z (cond t (decideStatuses bs us (flagsAt g (f .update)) y z) (refuse (numbered 1 0)))
     by true e =
-        by-answers true bs us refl (boot-status-ten (statusByte g (f .boot))) (update-status-ten (statusByte g (f .update))) (flagsAt g (f .update)) (check g (f .update)) (check g (f .boot))
-    by false e = refuses 1 0 0 (inl outsideRules)
+        by-answers true bs us refl (boot-status-ten (statusByte g (f .boot))) (update-status-ten (statusByte g (f .update))) (flagsAt g (f .update)) y z
+    by false e = refuses (numbered 1 0) (inl outsideRules)
 
 -- ---- turning down
 
@@ -326,9 +341,9 @@ down g f b (suc k) e e₁ e₂ h =
     ∙ ap oneMore (run-none TurnDown g k 0 f′
     (next-by-reads TurnDown g 0 f′ b UpdateNew (flagsAt g (f′ .update)) e₁ (update-erased g (s .limits) (f .update) (s .update)) refl))
 
-carried-down : (check : Check) (g : Geometry) (f : Flash) (budget n p : ℕ) (y : Plan) → Planned (fits g f) (bootStatusAt g (f .boot)) (updateStatusAt g (f .update)) y
+carried-down : (check : Check) (g : Geometry) (f : Flash) (budget n p : ℕ) (y : Plan) → PlannedOf check g f y
     → (carryOut check g f budget y) .reason ≡ because n p → 1 ≤ budget → TurnedDown g f (carryOut check g f budget y)
-carried-down check g f budget n p y (refuses n′ i′ p′ w) e h = absurd (let z : _≡_ {A = ℕ} 0 1 = cc in omega arith)
+carried-down check g f budget n p y (refuses r w) e h = absurd (let z : _≡_ {A = ℕ} 0 1 = cc in omega arith)
 carried-down check g f budget n p y goes-plain e h = absurd (let z : _≡_ {A = ℕ} 0 1 = cc in omega arith)
 carried-down check g f budget n p y (exchanges x) e h = absurd (let z : _≡_ {A = ℕ} 0 1 = cc in omega arith)
 carried-down check g f budget n p y (turns-down b n′ p′ e₀ e₁ e₂) e h =
@@ -341,35 +356,72 @@ reason-erases check g f budget n p e h = carried-down check g f budget n p (deci
 
 -- ---- refusals
 
--- after the work the only refusal is 12
-twelve : (o : Outcome) (y : Answer ℕ) (n i p : ℕ) → ((n i p : ℕ) → o ≢ refusal n i p) → ifBootGood o y ≡ refusal n i p → n ≡ 12
-twelve o (gives v) n i p h e = absurd (h n i p e)
-twelve o (refused n′ p′) n i p h e = cc
+-- the refusal of an outcome; 0 stands for none
+abbrev refusalIn : Outcome → Refusal
+refusalIn (refusal r) = r
+refusalIn cut = numbered 0 0
+refusalIn runs = numbered 0 0
+refusalIn runsOnTest = numbered 0 0
+refusalIn runsFallenBack = numbered 0 0
 
-no-refusal : (job : Job) (n i p : ℕ) → doneOutcome job ≢ refusal n i p
-no-refusal Update n i p e = let z : _≡_ {A = ℕ} 0 1 = cc in omega arith
-no-refusal Fallback n i p e = let z : _≡_ {A = ℕ} 0 1 = cc in omega arith
-no-refusal TurnDown n i p e = let z : _≡_ {A = ℕ} 0 1 = cc in omega arith
+-- after the work the only refusal is 12, with BOOT's own
+twelve : (o : Outcome) (y : Answer ℕ) (r : Refusal) → ((r : Refusal) → o ≢ refusal r) → ifBootGood o y ≡ refusal r → BadBoot y r
+twelve o (gives v) r h e = absurd (h r e)
+twelve o (refused n p) r h e = subst (BadBoot (refused n p)) (ap refusalIn e) (badBoot n p refl)
 
-twelve-after : (o : Next) (job : Job) (y : Answer ℕ) (n i p : ℕ) → outcomeBy o job y ≡ refusal n i p → n ≡ 12
-twelve-after (Do o) job y n i p e = absurd (let z : _≡_ {A = ℕ} 0 1 = cc in omega arith)
-twelve-after Nothing job y n i p e = twelve (doneOutcome job) y n i p (no-refusal job) e
+no-refusal : (job : Job) (r : Refusal) → doneOutcome job ≢ refusal r
+no-refusal Update r e = let z : _≡_ {A = ℕ} 0 1 = cc in omega arith
+no-refusal Fallback r e = let z : _≡_ {A = ℕ} 0 1 = cc in omega arith
+no-refusal TurnDown r e = let z : _≡_ {A = ℕ} 0 1 = cc in omega arith
 
-carried-before : (check : Check) (g : Geometry) (f : Flash) (budget n i p : ℕ) (y : Plan) → Planned (fits g f) (bootStatusAt g (f .boot)) (updateStatusAt g (f .update)) y
-    → (carryOut check g f budget y) .outcome ≡ refusal n i p → n ≢ 12 → RefusedBefore n f (carryOut check g f budget y)
-carried-before check g f budget n i p y (refuses n′ i′ p′ (inl w)) e h =
-    let k : n′ ≡ n = cc in record { number = subst BeforeWork k w; counts = refl; same = refl }
-carried-before check g f budget n i p y (refuses n′ i′ p′ (inr w)) e h = let k : n ≡ 12 = cc in absurd (h k)
-carried-before check g f budget n i p y goes-plain e h = absurd (h (twelve runs (check g (f .boot)) n i p (no-refusal TurnDown) e))
-carried-before check g f budget n i p y (exchanges x) e h =
-    let w : Run = run (jobOf x) g budget 0 f in absurd (h (twelve-after (nextOperation (jobOf x) g (w .phase) (w .flash)) (jobOf x) (check g (w .flash .boot)) n i p e))
-carried-before check g f budget n i p y (turns-down b n′ p′ e₀ e₁ e₂) e h =
-    let w : Run = run TurnDown g budget 0 f in absurd (h (twelve-after (nextOperation TurnDown g (w .phase) (w .flash)) TurnDown (check g (w .flash .boot)) n i p e))
+twelve-after : (o : Next) (job : Job) (y : Answer ℕ) (r : Refusal) → outcomeBy o job y ≡ refusal r → BadBoot y r
+twelve-after (Do o) job y r e = absurd (let z : _≡_ {A = ℕ} 0 1 = cc in omega arith)
+twelve-after Nothing job y r e = twelve (doneOutcome job) y r (no-refusal job) e
 
-refused-before : (check : Check) (g : Geometry) (f : Flash) (budget n i p : ℕ) → (powerUp check g f budget) .outcome ≡ refusal n i p → n ≢ 12
-    → RefusedBefore n f (powerUp check g f budget)
+-- a refusal comes before any operation, or is 12 of the flash that is left
+abbrev Refuses : Check → Geometry → Flash → Refusal → PowerUp → Type 0
+Refuses check g f r a = RefusedBefore (check g (f .update)) r f a ⊎ BadBoot (check g (a .flash .boot)) r
+
+carried-refuses : (check : Check) (g : Geometry) (f : Flash) (budget : ℕ) (r : Refusal) (y : Plan) → PlannedOf check g f y
+    → (carryOut check g f budget y) .outcome ≡ refusal r → Refuses check g f r (carryOut check g f budget y)
+carried-refuses check g f budget r y (refuses r′ (inl w)) e =
+    inl (record { number = subst (BeforeWork (check g (f .update))) (ap refusalIn e) w; counts = refl; same = refl })
+carried-refuses check g f budget r y (refuses r′ (inr w)) e = inr (subst (BadBoot (check g (f .boot))) (ap refusalIn e) w)
+carried-refuses check g f budget r y goes-plain e = inr (twelve runs (check g (f .boot)) r (no-refusal TurnDown) e)
+carried-refuses check g f budget r y (exchanges x) e =
+    let w : Run = run (jobOf x) g budget 0 f in inr (twelve-after (nextOperation (jobOf x) g (w .phase) (w .flash)) (jobOf x) (check g (w .flash .boot)) r e)
+carried-refuses check g f budget r y (turns-down b n p e₀ e₁ e₂) e =
+    let w : Run = run TurnDown g budget 0 f in inr (twelve-after (nextOperation TurnDown g (w .phase) (w .flash)) TurnDown (check g (w .flash .boot)) r e)
+
+refuses-by : (check : Check) (g : Geometry) (f : Flash) (budget : ℕ) (r : Refusal) → (powerUp check g f budget) .outcome ≡ refusal r
+    → Refuses check g f r (powerUp check g f budget)
 unfolding powerUp
-refused-before check g f budget n i p e h = carried-before check g f budget n i p (decide check g f) (planned check g f) e h
+refuses-by check g f budget r e = carried-refuses check g f budget r (decide check g f) (planned check g f) e
+
+is-12 : {y : Answer ℕ} (r : Refusal) → BadBoot y r → numberOf r ≡ 12
+is-12 r (badBoot n p e) = refl
+
+not-12 : {y : Answer ℕ} (r : Refusal) → BeforeWork y r → numberOf r ≢ 12
+not-12 r outsideRules e = omega arith
+not-12 r statusNotAllowed e = omega arith
+not-12 r flagsNotWellFormed e = omega arith
+not-12 r (noGoodFallback n p w) e = omega arith
+
+refused-before : (check : Check) (g : Geometry) (f : Flash) (budget : ℕ) (r : Refusal) → (powerUp check g f budget) .outcome ≡ refusal r → numberOf r ≢ 12
+    → RefusedBefore (check g (f .update)) r f (powerUp check g f budget)
+refused-before check g f budget r e h = by (refuses-by check g f budget r e)
+  where
+    by : Refuses check g f r (powerUp check g f budget) → RefusedBefore (check g (f .update)) r f (powerUp check g f budget)
+    by (inl w) = w
+    by (inr w) = absurd (h (is-12 r w))
+
+bad-boot : (check : Check) (g : Geometry) (f : Flash) (budget : ℕ) (r : Refusal) → (powerUp check g f budget) .outcome ≡ refusal r → numberOf r ≡ 12
+    → BadBoot (check g ((powerUp check g f budget) .flash .boot)) r
+bad-boot check g f budget r e h = by (refuses-by check g f budget r e)
+  where
+    by : Refuses check g f r (powerUp check g f budget) → BadBoot (check g ((powerUp check g f budget) .flash .boot)) r
+    by (inl w) = absurd (not-12 r (w .number) h)
+    by (inr w) = w
 
 -- no operation, no change
 none-done : (g : Geometry) (f : Flash) (os : List Operation) → length os ≡ 0 → performAll g os f ≡ f
@@ -406,5 +458,6 @@ ruled-out = record {
   malformedRefused = λ check x g f b u budget w r.
       eleven check g f budget (reads-decide check g f b u Malformed r ∙ malformed-11 w (check g (f .update)) (check g (f .boot)));
   refusedBefore = refused-before;
+  badBoot = bad-boot;
   noneCounted = none-counted;
 }

@@ -4,6 +4,7 @@ use mathlib.Core.List.{List, [], _∷_}
 use Prim.Native.Nat.{ℕ, zero, suc, _+_, _≤_}
 use native.Mathlib.Omega.{arith}
 use lib.ListN.{length, take}
+use Rattle.numbers.specs.Answer.{Reason}
 use Rattle.flash.specs.declared.Geometry.{Geometry}
 use Rattle.flash.specs.Buffers.{Flash}
 use Rattle.exchange.specs.declared.Operation.{Operation}
@@ -12,7 +13,7 @@ use Rattle.exchange.specs.declared.Next.the-variants.{Do, Nothing}
 use Rattle.exchange.specs.declared.Job.{Job}
 use Rattle.exchange.specs.Operations.{perform, performAll, phaseAfter}
 use Rattle.exchange.specs.Order.{nextOperation, performNext, step, Run, stopped, oneMore, run, operations}
-use Rattle.exchange.specs.Decision.{Check, Reason, work, decide}
+use Rattle.exchange.specs.Decision.{Check, work, decide}
 use Rattle.exchange.specs.PowerUp.{worked, powerUp}
 
 -- the step does what is next

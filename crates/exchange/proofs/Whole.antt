@@ -6,7 +6,7 @@ use Prim.Native.Nat.{ℕ, zero, suc, _+_, _-_, _*_, _/_, _%_, _≤_, _<_}
 use native.Mathlib.Decide.{decLt}
 use native.Mathlib.Omega.{arith}
 use lib.ListN.{length}
-use Rattle.numbers.specs.Answer.{gives}
+use Rattle.numbers.specs.Answer.{gives, noReason}
 use Rattle.flash.specs.declared.Geometry.{Geometry}
 use Rattle.flash.specs.Sizes.{firmware, partitionSize, Limits}
 use Rattle.flash.specs.Buffers.{Flash, Shaped, fits}
@@ -24,7 +24,7 @@ use Rattle.flash_status.specs.StatusBytes.{bootStatusAt, updateStatusAt}
 use Rattle.flash_flags.specs.SectorFlags.{moved, flagsAt}
 use Rattle.exchange.specs.declared.Area.{Area}
 use Rattle.exchange.specs.Operations.{get, oldBootIn, oldUpdateIn}
-use Rattle.exchange.specs.Decision.{Check, Good, noReason, work, decide}
+use Rattle.exchange.specs.Decision.{Check, Good, work, decide}
 use Rattle.exchange.specs.PowerUp.{Outcome, refusal, cut, runs, runsOnTest, runsFallenBack, powerUp}
 use Rattle.exchange.specs.Demand.{Exchange, jobOf, Underway, from-new, from-success, from-testing, StatusesAt, inLegs, atClose, Finished, Stands, Starts, Ongoing, untorn, lost, Event, isCut, left, flashLeft, EndsAsAllowed, Allowed, flashAfter, EachSafe, most, Safe, Demand3Ongoing, Demand3}
 use Rattle.flash.proofs.Checked.{shaped-of, shaped-fits}
@@ -46,7 +46,7 @@ closing-most from-success m = omega arith
 closing-most from-testing m = omega arith
 
 cut-small : (o : Outcome) → isCut o ≤ 1
-cut-small (refusal n i p) = omega arith
+cut-small (refusal r) = omega arith
 cut-small cut = omega arith
 cut-small runs = omega arith
 cut-small runsOnTest = omega arith

@@ -6,7 +6,7 @@ use mathlib.Core.List.{List, [], _∷_}
 use mathlib.Core.Option.{Option, none, some}
 use Prim.Native.Nat.{ℕ, _<_}
 use lib.ListN.{getD}
-use Rattle.numbers.specs.Answer.{gives}
+use Rattle.numbers.specs.Answer.{gives, Refusal, numbered, numberOf}
 use Rattle.numbers.specs.Every.{Every}
 use Rattle.flash.specs.declared.Geometry.{Geometry}
 use Rattle.flash.specs.Sizes.{geometry}
@@ -107,13 +107,13 @@ pub record LeavesAs (check : Check) (f : Flash) (bs : List ℕ) (l : Leaves) : T
 
 -- Refusal 11, or another outcome than refusal 11.
 abbrev pub Is11 : Bool → Outcome → Type 0
-Is11 true o = o ≡ refusal 11 0 0
-Is11 false o = (i p : ℕ) → ¬ (o ≡ refusal 11 i p)
+Is11 true o = o ≡ refusal (numbered 11 0)
+Is11 false o = (r : Refusal) → numberOf r ≡ 11 → ¬ (o ≡ refusal r)
 
 -- What a case says, of every flash that it speaks of.
-abbrev pub Holds : Check → ExchangeCase → Type 0
-Holds check (powerUps x bs l) = (f : Flash) → Ready x check f → LeavesAs check f bs l
-Holds check (malformed b r) =
+abbrev pub ExchangeCaseHolds : Check → ExchangeCase → Type 0
+ExchangeCaseHolds check (powerUps x bs l) = (f : Flash) → Ready x check f → LeavesAs check f bs l
+ExchangeCaseHolds check (malformed b r) =
     (f : Flash) (budget : ℕ) → fits three f ≡ true → bootStatusAt three (f .boot) ≡ gives Success → updateStatusAt three (f .update) ≡ gives Updating
     → flagByteOf f ≡ b → Is11 r ((powerUp check three f budget) .outcome)
 
@@ -148,4 +148,4 @@ exchangeCases =
 
 -- The cases 1 to 6, for every image check that reads the firmware sectors only.
 abbrev pub MarkedExchange : Type 0
-MarkedExchange = (check : Check) → ReadsFirmware check three → Every (Holds check) exchangeCases
+MarkedExchange = (check : Check) → ReadsFirmware check three → Every (ExchangeCaseHolds check) exchangeCases

@@ -4,7 +4,7 @@ use mathlib.Core.Bool.{cond}
 use mathlib.Core.List.{List}
 use Prim.Native.Nat.{ℕ}
 use lib.Dec.{ltb}
-use Rattle.numbers.specs.Answer.{Answer, gives, refused}
+use Rattle.numbers.specs.Answer.{Answer, gives, refused, Refusal, numbered, inside, Reason, noReason, because}
 use Rattle.flash.specs.declared.Geometry.{Geometry}
 use Rattle.flash.specs.Buffers.{Flash, fits}
 use Rattle.flash_status.specs.declared.BootStatus.{BootStatus}
@@ -27,14 +27,9 @@ pub record Good (image : Answer ℕ) : Type 0 where
   pub version : ℕ
   pub good : image ≡ gives version
 
--- Why an update was turned down: a number and its place. Other power-ups have no reason.
-pub data Reason : Type 0 where
-  noReason : Reason
-  because : ℕ → ℕ → Reason
-
--- What is decided: a refusal (number, and the number and place of a bad image within it), Plain, or a job with its reason.
+-- What is decided: a refusal, Plain, or a job with its reason.
 pub data Plan : Type 0 where
-  refuse : ℕ → ℕ → ℕ → Plan
+  refuse : Refusal → Plan
   plain : Plan
   work : Job → Reason → Plan
 
@@ -42,32 +37,32 @@ pub data Plan : Type 0 where
 -- a bad BOOT is 12; then a version that is not greater than BOOT's is turned down with 15.
 abbrev pub accept : Answer ℕ → Answer ℕ → Plan
 accept (refused n p) b = work TurnDown (because n p)
-accept (gives v) (refused n p) = refuse 12 n p
+accept (gives v) (refused n p) = refuse (inside 12 n p)
 accept (gives v) (gives w) = cond (ltb w v) (work Update noReason) (work TurnDown (because 15 0))
 
 -- A fallback with all flags F, by the check of UPDATE: a bad one is 13.
 abbrev pub acceptFallback : Answer ℕ → Plan
-acceptFallback (refused n p) = refuse 13 n p
+acceptFallback (refused n p) = refuse (inside 13 n p)
 acceptFallback (gives v) = work Fallback noReason
 
 -- By the flags. Only with all flags F are images checked before the work; an exchange that has begun goes on unchecked.
 abbrev pub decideUpdate : Flags → Answer ℕ → Answer ℕ → Plan
-decideUpdate Malformed u b = refuse 11 0 0
+decideUpdate Malformed u b = refuse (numbered 11 0)
 decideUpdate AllF u b = accept u b
 decideUpdate (At i leg) u b = work Update noReason
 decideUpdate All0 u b = work Update noReason
 
 abbrev pub decideFallback : Flags → Answer ℕ → Plan
-decideFallback Malformed u = refuse 11 0 0
+decideFallback Malformed u = refuse (numbered 11 0)
 decideFallback AllF u = acceptFallback u
 decideFallback (At i leg) u = work Fallback noReason
 decideFallback All0 u = work Fallback noReason
 
 -- With both UPDATING and TESTING only the end of an update can be left: unless every flag is 0 it is 11.
 abbrev pub decideClosing : Flags → Plan
-decideClosing Malformed = refuse 11 0 0
-decideClosing AllF = refuse 11 0 0
-decideClosing (At i leg) = refuse 11 0 0
+decideClosing Malformed = refuse (numbered 11 0)
+decideClosing AllF = refuse (numbered 11 0)
+decideClosing (At i leg) = refuse (numbered 11 0)
 decideClosing All0 = work Update noReason
 
 -- By BOOT's and UPDATE's status. Where UPDATE is NEW and BOOT is not TESTING the flags are not read.
@@ -81,13 +76,15 @@ decideBy Testing Updating flags u b = decideClosing flags
 
 -- A status byte that is not allowed there is its own refusal, BOOT's first.
 abbrev pub decideStatuses : Answer BootStatus → Answer UpdateStatus → Flags → Answer ℕ → Answer ℕ → Plan
-decideStatuses (refused n p) us flags u b = refuse n 0 0
-decideStatuses (gives bs) (refused n p) flags u b = refuse n 0 0
+decideStatuses (refused n p) us flags u b = refuse (numbered n p)
+decideStatuses (gives bs) (refused n p) flags u b = refuse (numbered n p)
 decideStatuses (gives bs) (gives us) flags u b = decideBy bs us flags u b
+
+-- By the bytes of BOOT and UPDATE, whose lengths are right.
+abbrev pub decideWithin : Check → Geometry → List ℕ → List ℕ → Plan
+decideWithin check g boot update =
+    decideStatuses (bootStatusAt g boot) (updateStatusAt g update) (flagsAt g update) (check g update) (check g boot)
 
 -- Geometry and lengths first.
 unfoldable pub decide : Check → Geometry → Flash → Plan
-decide check g f =
-    cond (fits g f)
-    (decideStatuses (bootStatusAt g (f .boot)) (updateStatusAt g (f .update)) (flagsAt g (f .update)) (check g (f .update)) (check g (f .boot)))
-    (refuse 1 0 0)
+decide check g f = cond (fits g f) (decideWithin check g (f .boot) (f .update)) (refuse (numbered 1 0))

@@ -5,7 +5,7 @@ use mathlib.Core.Bool.{true, false}
 use mathlib.Core.List.{List}
 use Prim.Native.Nat.{ℕ, _+_, _-_, _*_, _≤_, _<_}
 use lib.ListN.{length}
-use Rattle.numbers.specs.Answer.{gives}
+use Rattle.numbers.specs.Answer.{gives, numbered, noReason}
 use Rattle.flash.specs.declared.Geometry.{Geometry}
 use Rattle.flash.specs.Sizes.{firmware, partitionSize}
 use Rattle.flash.specs.Sectors.{firmwareOf, erased}
@@ -25,7 +25,7 @@ use Rattle.exchange.specs.declared.Area.the-variants.{Boot, Update}
 use Rattle.exchange.specs.declared.Job.{Job}
 use Rattle.exchange.specs.declared.Job.the-variants.{Update as UpdateJob, Fallback as FallbackJob}
 use Rattle.exchange.specs.Operations.{get, oldBootIn, oldUpdateIn}
-use Rattle.exchange.specs.Decision.{Check, Good, noReason, work, decide}
+use Rattle.exchange.specs.Decision.{Check, Good, work, decide}
 use Rattle.exchange.specs.PowerUp.{Outcome, refusal, cut, runs, runsOnTest, runsFallenBack, PowerUp, doneOutcome, powerUp, nextAfter}
 use Rattle.exchange.specs.LostPower.{Torn, tearNext}
 use Rattle.exchange.specs.Along.{stateAfter, Along, summed}
@@ -117,7 +117,7 @@ pub record Left : Type 0 where
   pub early : ℕ
 
 abbrev pub isCut : Outcome → ℕ
-isCut (refusal n i p) = 0
+isCut (refusal r) = 0
 isCut cut = 1
 isCut runs = 0
 isCut runsOnTest = 0
@@ -186,7 +186,7 @@ pub record FlagNotBack (g : Geometry) (before after : Flash) (i : ℕ) : Type 0 
   pub notBack : flagRank was ≤ flagRank is
 
 abbrev pub IsRefusal : Outcome → Type 0
-IsRefusal (refusal n i p) = Unit {0}
+IsRefusal (refusal r) = Unit {0}
 IsRefusal cut = ⊥
 IsRefusal runs = ⊥
 IsRefusal runsOnTest = ⊥
@@ -206,7 +206,7 @@ CutOrDone x g o f = ((o ≡ cut) × (¬ Finished x g f)) ⊎ ((o ≡ doneOutcome
 -- What an untorn power-up answers: refusal 1 for a wrong geometry or length, which is the only refusal; else by what it leaves.
 abbrev pub Answers : Check → Exchange → Geometry → Flash → Event → Flash → Type 0
 Answers check x g before (untorn g′ budget) after =
-    ((fits g′ before ≡ false) × ((powerUp check g′ before budget) .outcome ≡ refusal 1 0 0))
+    ((fits g′ before ≡ false) × ((powerUp check g′ before budget) .outcome ≡ refusal (numbered 1 0)))
     ⊎ ((fits g′ before ≡ true) × CutOrDone x g ((powerUp check g′ before budget) .outcome) after)
 Answers check x g before (lost g′ budget k t) after = Unit {0}
 

@@ -51,9 +51,12 @@ orderedBy job p (gives b) (gives u) flags = ordered job p b u flags
 orderedBy job p (gives b) (refused n q) flags = Nothing
 orderedBy job p (refused n q) u flags = Nothing
 
--- The next operation, by the bytes alone: nothing is remembered but the phase of the leg.
+-- The next operation, by the bytes of BOOT and UPDATE alone: nothing is remembered but the phase of the leg.
+abbrev pub nextBy : Job → Geometry → ℕ → List ℕ → List ℕ → Next
+nextBy job g p boot update = orderedBy job p (bootStatusAt g boot) (updateStatusAt g update) (flagsAt g update)
+
 unfoldable pub nextOperation : Job → Geometry → ℕ → Flash → Next
-nextOperation job g p f = orderedBy job p (bootStatusAt g (f .boot)) (updateStatusAt g (f .update)) (flagsAt g (f .update))
+nextOperation job g p f = nextBy job g p (f .boot) (f .update)
 
 -- The single step: the next operation, if there is one, is done. It is the only way in which a power-up changes the flash.
 pub record Step : Type 0 where

@@ -1,7 +1,7 @@
 -- Document 01, "Power-up": the call with a budget, made only of repeating the single step.
 use mathlib.Core.List.{List, []}
 use Prim.Native.Nat.{ℕ}
-use Rattle.numbers.specs.Answer.{Answer, gives, refused}
+use Rattle.numbers.specs.Answer.{Answer, gives, refused, Refusal, inside, Reason, noReason}
 use Rattle.flash.specs.declared.Geometry.{Geometry}
 use Rattle.flash.specs.Buffers.{Flash}
 use Rattle.exchange.specs.declared.Operation.{Operation}
@@ -10,11 +10,11 @@ use Rattle.exchange.specs.declared.Next.the-variants.{Do, Nothing}
 use Rattle.exchange.specs.declared.Job.{Job}
 use Rattle.exchange.specs.declared.Job.the-variants.{Update, Fallback, TurnDown}
 use Rattle.exchange.specs.Order.{nextOperation, Run, run, operations}
-use Rattle.exchange.specs.Decision.{Check, Reason, noReason, Plan, refuse, plain, work, decide}
+use Rattle.exchange.specs.Decision.{Check, Plan, refuse, plain, work, decide}
 
--- The outcomes: a refusal (number, inner number, inner place), "cut", "run", "run on test", "run, fallen back".
+-- The outcomes: a refusal, "cut", "run", "run on test", "run, fallen back".
 pub data Outcome : Type 0 where
-  refusal : ℕ → ℕ → ℕ → Outcome
+  refusal : Refusal → Outcome
   cut : Outcome
   runs : Outcome
   runsOnTest : Outcome
@@ -30,7 +30,7 @@ pub record PowerUp : Type 0 where
 -- Before anything is run BOOT is checked: bad is 12, with its own number and place.
 abbrev pub ifBootGood : Outcome → Answer ℕ → Outcome
 ifBootGood o (gives v) = o
-ifBootGood o (refused n p) = refusal 12 n p
+ifBootGood o (refused n p) = refusal (inside 12 n p)
 
 -- The outcome of a job that is done.
 abbrev pub doneOutcome : Job → Outcome
@@ -59,7 +59,7 @@ idle o f = record { outcome = o; reason = noReason; count = 0; flash = f }
 
 -- Work begins at phase 0, the top of a leg, in every call.
 abbrev pub carryOut : Check → Geometry → Flash → ℕ → Plan → PowerUp
-carryOut check g f budget (refuse n i p) = idle (refusal n i p) f
+carryOut check g f budget (refuse r) = idle (refusal r) f
 carryOut check g f budget plain = idle (ifBootGood runs (check g (f .boot))) f
 carryOut check g f budget (work job reason) = worked check g job reason (run job g budget 0 f)
 
@@ -69,7 +69,7 @@ powerUp check g f budget = carryOut check g f budget (decide check g f)
 
 -- The operations that it does, in their order.
 abbrev pub operationsIn : Geometry → Flash → ℕ → Plan → List Operation
-operationsIn g f budget (refuse n i p) = []
+operationsIn g f budget (refuse r) = []
 operationsIn g f budget plain = []
 operationsIn g f budget (work job reason) = operations job g budget 0 f
 
@@ -78,7 +78,7 @@ operationsOf check g f budget = operationsIn g f budget (decide check g f)
 
 -- The operation that the same call orders after its first k, if any: the one that a loss of power may tear.
 abbrev pub nextIn : Geometry → Flash → ℕ → Plan → Next
-nextIn g f k (refuse n i p) = Nothing
+nextIn g f k (refuse r) = Nothing
 nextIn g f k plain = Nothing
 nextIn g f k (work job reason) = nextOperation job g ((run job g k 0 f) .phase) ((run job g k 0 f) .flash)
 

@@ -4,6 +4,7 @@ use mathlib.Core.Path.{_≡_}
 use mathlib.Core.List.{List, [], _∷_}
 use Prim.Native.Nat.{ℕ, _+_, _*_, _≤_}
 use lib.ListN.{length}
+use Rattle.numbers.specs.Answer.{numbered}
 use Rattle.flash.specs.declared.Geometry.{Geometry}
 use Rattle.flash.specs.Sizes.{geometry, firmware}
 use Rattle.flash.specs.Sectors.{sectorNumber}
@@ -23,7 +24,7 @@ roughList g t budget =
 
 -- What holds of that list, from the flash f on.
 pub record Reached (check : Check) (x : Exchange) (g : Geometry) (f : Flash) (t : Torn) (budget : ℕ) : Type 0 where
-  pub firstRefused : (powerUp check (geometry 0 0) f budget) .outcome ≡ refusal 1 0 0
+  pub firstRefused : (powerUp check (geometry 0 0) f budget) .outcome ≡ refusal (numbered 1 0)
   pub copyTorn : nextAfter check g f 1 ≡ Do (Copy UpdateToSwap (sectorNumber 0))
   pub allowed : Allowed check x g f (roughList g t budget)
   pub finished : Finished x g (flashAfter check f (roughList g t budget))

@@ -4,7 +4,7 @@ use mathlib.Core.Logic.{_≢_}
 use mathlib.Core.Bool.{true}
 use Prim.Native.Nat.{ℕ, _≤_, _<_}
 use lib.ListN.{length, take}
-use Rattle.numbers.specs.Answer.{Answer, gives, refused}
+use Rattle.numbers.specs.Answer.{Answer, gives, refused, Refusal, numbered, inside, numberOf, noReason, because}
 use Rattle.flash.specs.declared.Geometry.{Geometry}
 use Rattle.flash.specs.declared.SectorNumber.{SectorNumber}
 use Rattle.flash.specs.Sectors.{sectorNumber}
@@ -22,7 +22,7 @@ use Rattle.flash_flags.specs.SectorFlags.{flagsAt}
 use Rattle.exchange.specs.declared.Operation.the-variants.{Erase, EraseUpdateTrailer}
 use Rattle.exchange.specs.declared.Job.the-variants.{Update}
 use Rattle.exchange.specs.Operations.{target, perform, performAll}
-use Rattle.exchange.specs.Decision.{Check, Good, because, noReason, work, decide}
+use Rattle.exchange.specs.Decision.{Check, Good, work, decide}
 use Rattle.exchange.specs.PowerUp.{Outcome, refusal, cut, runs, runsOnTest, runsFallenBack, PowerUp, idle, powerUp, operationsOf}
 use Rattle.exchange.specs.Demand.{Exchange, update, fallback, Underway, Starts}
 
@@ -43,27 +43,31 @@ pub record Newer (u b : Answer ℕ) : Type 0 where
 
 -- An outcome that starts what is in BOOT.
 abbrev pub IsRun : Outcome → Type 0
-IsRun (refusal n i p) = ⊥
+IsRun (refusal r) = ⊥
 IsRun cut = ⊥
 IsRun runs = Unit {0}
 IsRun runsOnTest = Unit {0}
 IsRun runsFallenBack = Unit {0}
+
+-- 12, with the own number and place of an image that is bad.
+pub data BadBoot (boot : Answer ℕ) : Refusal → Type 0 where
+  badBoot : (n p : ℕ) → boot ≡ refused n p → BadBoot boot (inside 12 n p)
 
 -- Turned down: one operation, which erases the UPDATE trailer sector.
 pub record TurnedDown (g : Geometry) (f : Flash) (a : PowerUp) : Type 0 where
   pub counts : a .count ≡ 1
   pub erases : a .flash ≡ perform g EraseUpdateTrailer f
 
--- The numbers of the refusals that come before any operation.
-pub data BeforeWork : ℕ → Type 0 where
-  outsideRules : BeforeWork 1
-  statusNotAllowed : BeforeWork 10
-  flagsNotWellFormed : BeforeWork 11
-  noGoodFallback : BeforeWork 13
+-- The refusals that come before any operation: 1, 10 and 11 at no place, and 13 with UPDATE's own refusal, by the check of UPDATE.
+pub data BeforeWork (update : Answer ℕ) : Refusal → Type 0 where
+  outsideRules : BeforeWork update (numbered 1 0)
+  statusNotAllowed : BeforeWork update (numbered 10 0)
+  flagsNotWellFormed : BeforeWork update (numbered 11 0)
+  noGoodFallback : (n p : ℕ) → update ≡ refused n p → BeforeWork update (inside 13 n p)
 
--- Refused with number n before any operation: no byte is changed.
-pub record RefusedBefore (n : ℕ) (f : Flash) (a : PowerUp) : Type 0 where
-  pub number : BeforeWork n
+-- Refused so before any operation: no byte is changed.
+pub record RefusedBefore (update : Answer ℕ) (r : Refusal) (f : Flash) (a : PowerUp) : Type 0 where
+  pub number : BeforeWork update r
   pub counts : a .count ≡ 0
   pub same : a .flash ≡ f
 
@@ -105,12 +109,15 @@ pub record RuledOut : Type 0 where
       → TurnedDown g f (powerUp check g f budget)
   -- with UPDATING and TESTING, flags that are not all 0 are 11
   pub closingOnly : (check : Check) (g : Geometry) (f : Flash) (v : Flags) (budget : ℕ) → Reads g f Testing Updating v → v ≢ All0
-      → powerUp check g f budget ≡ idle (refusal 11 0 0) f
+      → powerUp check g f budget ≡ idle (refusal (numbered 11 0)) f
   -- flags that are not well formed are 11, in an update and in a fallback
   pub malformedRefused : (check : Check) (x : Exchange) (g : Geometry) (f : Flash) (b : BootStatus) (u : UpdateStatus) (budget : ℕ) → Underway x b u
-      → Reads g f b u Malformed → powerUp check g f budget ≡ idle (refusal 11 0 0) f
+      → Reads g f b u Malformed → powerUp check g f budget ≡ idle (refusal (numbered 11 0)) f
   -- a refusal other than 12 is 1, 10, 11 or 13, and comes before any operation
-  pub refusedBefore : (check : Check) (g : Geometry) (f : Flash) (budget n i p : ℕ) → (powerUp check g f budget) .outcome ≡ refusal n i p → n ≢ 12
-      → RefusedBefore n f (powerUp check g f budget)
+  pub refusedBefore : (check : Check) (g : Geometry) (f : Flash) (budget : ℕ) (r : Refusal) → (powerUp check g f budget) .outcome ≡ refusal r
+      → numberOf r ≢ 12 → RefusedBefore (check g (f .update)) r f (powerUp check g f budget)
+  -- 12 carries the own number and place of BOOT's image, in the flash that is left
+  pub badBoot : (check : Check) (g : Geometry) (f : Flash) (budget : ℕ) (r : Refusal) → (powerUp check g f budget) .outcome ≡ refusal r
+      → numberOf r ≡ 12 → BadBoot (check g ((powerUp check g f budget) .flash .boot)) r
   -- whatever the outcome, also with 12: where no operation is counted no byte is changed
   pub noneCounted : (check : Check) (g : Geometry) (f : Flash) (budget : ℕ) → (powerUp check g f budget) .count ≡ 0 → (powerUp check g f budget) .flash ≡ f

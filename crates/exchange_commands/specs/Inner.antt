@@ -2,7 +2,7 @@
 use Rattle.numbers.specs.Answer.{Answer, gives, refused}
 use Rattle.exchange_commands.specs.declared.Permit.{Permit}
 use Rattle.exchange_commands.specs.declared.Permit.the-variants.{Granted, Denied}
-use Rattle.exchange_commands.specs.Numbers.{commandNumber}
+use Rattle.numbers.specs.GivenBack.{commandNumber}
 
 -- what the checks before the work decide
 abbrev pub permitOf : Permit → Answer (Unit {0})

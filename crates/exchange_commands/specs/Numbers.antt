@@ -3,17 +3,9 @@ use Prim.Native.Nat.{ℕ}
 use Rattle.numbers.specs.Answer.{Answer, gives, refused}
 use Rattle.flash.specs.Buffers.{Flash}
 use Rattle.exchange.specs.Commands.{Command}
-use Rattle.exchange_commands.specs.declared.CommandRefusal.{CommandRefusal}
-use Rattle.exchange_commands.specs.declared.CommandRefusal.the-variants.{OutsideRules, StatusNotAllowed, FlagsMalformed, WrongTime}
+use Rattle.numbers.specs.GivenBack.{commandNumber}
 use Rattle.exchange_commands.specs.declared.CommandAnswer.{CommandAnswer}
 use Rattle.exchange_commands.specs.declared.CommandAnswer.the-variants.{Done, Refused}
-
--- "Numbers given back", of arm and confirm.
-abbrev pub commandNumber : CommandRefusal → ℕ
-commandNumber OutsideRules = 1
-commandNumber StatusNotAllowed = 10
-commandNumber FlagsMalformed = 11
-commandNumber WrongTime = 14
 
 -- "Arm" and "Confirm": the number of operations done, or a refusal, at no place; and the flash that they leave.
 abbrev pub commandOf : CommandAnswer → Answer ℕ

@@ -6,23 +6,16 @@ use flash_flags::Flags;
 use flash_status::BootStatus;
 use flash_status::Statuses;
 use flash_status::UpdateStatus;
+use numbers::CommandRefusal;
 ghost use mathlib.Core.Path.{_≡_};
 ghost use Rattle.flash.specs.Sizes.{geometry};
 ghost use Rattle.flash.specs.Sectors.{Partition};
-ghost use Rattle.flash.specs.Buffers.{flash, Shaped};
+ghost use Rattle.flash.specs.Buffers.{lent, Shaped};
 ghost use Rattle.flash_status.specs.StatusBytes.{bootStatusAt, updateStatusAt};
 ghost use Rattle.flash_flags.specs.SectorFlags.{flagsAt};
 ghost use Rattle.exchange.specs.Commands.{command, withStatuses, mayArm, armOperations, arm, confirmFlags, mayConfirm, confirmOperations, confirm};
 ghost use Rattle.exchange_commands.specs.Numbers.{commanded};
 ghost use Rattle.exchange_commands.specs.Inner.{permitOf};
-
-// Why arm or confirm is refused.
-pub enum CommandRefusal {
-    OutsideRules,
-    StatusNotAllowed,
-    FlagsMalformed,
-    WrongTime,
-}
 
 // What arm and confirm answer: done, with the number of operations, or refused.
 pub enum CommandAnswer {
@@ -109,8 +102,8 @@ fn arm_if(
     update: &mut [u8],
     swap: &mut [u8],
 ) -> CommandAnswer
-    requires { ⌜ Shaped g (flash (now boot) (now update) (now swap)) ⌝ }
-    ensures { λ r. ⌜ commanded r (flash (now (boot .exit)) (now (update .exit)) (now (swap .exit))) ≡ command g armOperations (permitOf permit) (flash (now (boot .entry)) (now (update .entry)) (now (swap .entry))) ⌝ }
+    requires { ⌜ Shaped g (lent boot update swap) ⌝ }
+    ensures { λ r. ⌜ commanded r (lent (boot .exit) (update .exit) (swap .exit)) ≡ command g armOperations (permitOf permit) (lent (boot .entry) (update .entry) (swap .entry)) ⌝ }
 {
     match permit {
         Permit::Granted => {
@@ -135,8 +128,8 @@ fn confirm_if(
     update: &mut [u8],
     swap: &mut [u8],
 ) -> CommandAnswer
-    requires { ⌜ Shaped g (flash (now boot) (now update) (now swap)) ⌝ }
-    ensures { λ r. ⌜ commanded r (flash (now (boot .exit)) (now (update .exit)) (now (swap .exit))) ≡ command g confirmOperations (permitOf permit) (flash (now (boot .entry)) (now (update .entry)) (now (swap .entry))) ⌝ }
+    requires { ⌜ Shaped g (lent boot update swap) ⌝ }
+    ensures { λ r. ⌜ commanded r (lent (boot .exit) (update .exit) (swap .exit)) ≡ command g confirmOperations (permitOf permit) (lent (boot .entry) (update .entry) (swap .entry)) ⌝ }
 {
     match permit {
         Permit::Granted => {
@@ -161,7 +154,7 @@ pub fn arm(
     update: &mut [u8],
     swap: &mut [u8],
 ) -> CommandAnswer
-    ensures { λ r. ⌜ commanded r (flash (now (boot .exit)) (now (update .exit)) (now (swap .exit))) ≡ arm (geometry sectors size) (flash (now (boot .entry)) (now (update .entry)) (now (swap .entry))) ⌝ }
+    ensures { λ r. ⌜ commanded r (lent (boot .exit) (update .exit) (swap .exit)) ≡ arm (geometry sectors size) (lent (boot .entry) (update .entry) (swap .entry)) ⌝ }
 {
     match flash::check_flash(sectors, size, boot, update, swap) {
         GeometryAnswer::Fits(g) => {
@@ -180,7 +173,7 @@ pub fn confirm(
     update: &mut [u8],
     swap: &mut [u8],
 ) -> CommandAnswer
-    ensures { λ r. ⌜ commanded r (flash (now (boot .exit)) (now (update .exit)) (now (swap .exit))) ≡ confirm (geometry sectors size) (flash (now (boot .entry)) (now (update .entry)) (now (swap .entry))) ⌝ }
+    ensures { λ r. ⌜ commanded r (lent (boot .exit) (update .exit) (swap .exit)) ≡ confirm (geometry sectors size) (lent (boot .entry) (update .entry) (swap .entry)) ⌝ }
 {
     match flash::check_flash(sectors, size, boot, update, swap) {
         GeometryAnswer::Fits(g) => {

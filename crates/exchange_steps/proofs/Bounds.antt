@@ -28,7 +28,7 @@ use Rattle.exchange.specs.declared.Next.{Next}
 use Rattle.exchange.specs.declared.Next.the-variants.{Do, Nothing}
 use Rattle.exchange.specs.Operations.{legOperation}
 use Rattle.exchange.specs.Order.{closing, exchangeNext, ordered, orderedBy}
-use Rattle.exchange_steps.specs.Inner.{Within}
+use Rattle.exchange_steps.specs.Inner.{SectorWithin}
 
 -- a firmware sector, and the trailer sector, are sectors
 pub sector-of : (g : Geometry) → Limits g → (i : ℕ) → i < firmware g → i < g .sectors
@@ -45,7 +45,7 @@ FlagsWithin g All0 = Unit {0}
 
 abbrev pub NextWithin : Geometry → Next → Type 0
 NextWithin g Nothing = Unit {0}
-NextWithin g (Do o) = Within g o
+NextWithin g (Do o) = SectorWithin g o
 
 flags-within : (g : Geometry) (u : List ℕ) → FlagsWithin g (flagsAt g u)
 flags-within g u = by (flagsAt g u) refl
@@ -56,18 +56,18 @@ flags-within g u = by (flagsAt g u) refl
     by (At i leg) e = (each-at g u i leg e) .inside
     by All0 e = tt
 
-leg-within : (g : Geometry) (leg : Leg) (p : ℕ) (i : SectorNumber) → i .0 < firmware g → Within g (legOperation leg p i)
+leg-within : (g : Geometry) (leg : Leg) (p : ℕ) (i : SectorNumber) → i .0 < firmware g → SectorWithin g (legOperation leg p i)
 leg-within g leg zero i h = h
 leg-within g leg (suc zero) i h = h
 leg-within g leg (suc (suc p)) i h = h
 
-exchange-within : (g : Geometry) → Limits g → (p : ℕ) (w : Flags) (last : Operation) → FlagsWithin g w → Within g last → NextWithin g (exchangeNext p w last)
+exchange-within : (g : Geometry) → Limits g → (p : ℕ) (w : Flags) (last : Operation) → FlagsWithin g w → SectorWithin g last → NextWithin g (exchangeNext p w last)
 exchange-within g G p AllF last h k = leg-within g UpdateToSwap p (sectorNumber 0) (some-firmware g G)
 exchange-within g G p (At i leg) last h k = leg-within g leg p i h
 exchange-within g G p All0 last h k = k
 exchange-within g G p Malformed last h k = tt
 
-closing-within : (g : Geometry) (b : BootStatus) → Within g (closing b)
+closing-within : (g : Geometry) (b : BootStatus) → SectorWithin g (closing b)
 closing-within g Success = tt
 closing-within g BootNew = tt
 closing-within g Testing = tt

@@ -10,14 +10,14 @@ use Rattle.exchange.specs.Order as order
 use Rattle.exchange_steps.specs.declared.Ran.{Ran}
 
 -- the operation's sector, if it has one, is a firmware sector
-abbrev pub Within : Geometry → Operation → Type 0
-Within g (Erase a i) = i .0 < firmware g
-Within g (Copy leg i) = i .0 < firmware g
-Within g (WriteFlag i v) = i .0 < firmware g
-Within g EraseBootTrailer = Unit {0}
-Within g EraseUpdateTrailer = Unit {0}
-Within g (WriteBootStatus v) = Unit {0}
-Within g (WriteUpdateStatus v) = Unit {0}
+abbrev pub SectorWithin : Geometry → Operation → Type 0
+SectorWithin g (Erase a i) = i .0 < firmware g
+SectorWithin g (Copy leg i) = i .0 < firmware g
+SectorWithin g (WriteFlag i v) = i .0 < firmware g
+SectorWithin g EraseBootTrailer = Unit {0}
+SectorWithin g EraseUpdateTrailer = Unit {0}
+SectorWithin g (WriteBootStatus v) = Unit {0}
+SectorWithin g (WriteUpdateStatus v) = Unit {0}
 
 -- a step and a run of steps, with the flash that they leave
 abbrev pub stepped : Next → Flash → order.Step

@@ -10,12 +10,10 @@ use flash_status::Statuses;
 ghost use mathlib.Core.Path.{_≡_};
 ghost use Prim.Native.Nat.{_<_};
 ghost use Rattle.flash.specs.Sectors.{Partition, erased};
-ghost use Rattle.flash.specs.Buffers.{flash, Shaped};
-ghost use Rattle.flash_status.specs.StatusBytes.{bootStatusAt, updateStatusAt};
-ghost use Rattle.flash_flags.specs.SectorFlags.{flagsAt};
+ghost use Rattle.flash.specs.Buffers.{lent, Shaped};
 ghost use Rattle.exchange.specs.Operations.{source, target, get, put, perform};
-ghost use Rattle.exchange.specs.Order.{orderedBy, step, run};
-ghost use Rattle.exchange_steps.specs.Inner.{Within, stepped, ran};
+ghost use Rattle.exchange.specs.Order.{nextBy, step, run};
+ghost use Rattle.exchange_steps.specs.Inner.{SectorWithin, stepped, ran};
 
 // Erases sector i of an area. SWAP is one sector, whatever i.
 fn erase_in(
@@ -26,8 +24,8 @@ fn erase_in(
     update: &mut [u8],
     swap: &mut [u8],
 )
-    requires { ⌜ (Shaped g (flash (now boot) (now update) (now swap))) × (i .0 < g .sectors) ⌝ }
-    ensures { λ _. ⌜ flash (now (boot .exit)) (now (update .exit)) (now (swap .exit)) ≡ put g area (i .0) (erased (g .size)) (flash (now (boot .entry)) (now (update .entry)) (now (swap .entry))) ⌝ }
+    requires { ⌜ (Shaped g (lent boot update swap)) × (i .0 < g .sectors) ⌝ }
+    ensures { λ _. ⌜ lent (boot .exit) (update .exit) (swap .exit) ≡ put g area (i .0) (erased (g .size)) (lent (boot .entry) (update .entry) (swap .entry)) ⌝ }
 {
     match area {
         Area::Boot => flash_sectors::erase_sector(g, boot, i),
@@ -45,8 +43,8 @@ fn copy_for(
     update: &mut [u8],
     swap: &mut [u8],
 )
-    requires { ⌜ (Shaped g (flash (now boot) (now update) (now swap))) × (i .0 < g .sectors) ⌝ }
-    ensures { λ _. ⌜ flash (now (boot .exit)) (now (update .exit)) (now (swap .exit)) ≡ put g (target leg) (i .0) (get g (source leg) (i .0) (flash (now (boot .entry)) (now (update .entry)) (now (swap .entry)))) (flash (now (boot .entry)) (now (update .entry)) (now (swap .entry))) ⌝ }
+    requires { ⌜ (Shaped g (lent boot update swap)) × (i .0 < g .sectors) ⌝ }
+    ensures { λ _. ⌜ lent (boot .exit) (update .exit) (swap .exit) ≡ put g (target leg) (i .0) (get g (source leg) (i .0) (lent (boot .entry) (update .entry) (swap .entry))) (lent (boot .entry) (update .entry) (swap .entry)) ⌝ }
 {
     match leg {
         Leg::UpdateToSwap => flash_sectors::copy_to_swap(g, swap, update, i),
@@ -57,8 +55,8 @@ fn copy_for(
 
 // One operation.
 pub fn do_operation(g: Geometry, op: Operation, boot: &mut [u8], update: &mut [u8], swap: &mut [u8])
-    requires { ⌜ (Shaped g (flash (now boot) (now update) (now swap))) × (Within g op) ⌝ }
-    ensures { λ _. ⌜ flash (now (boot .exit)) (now (update .exit)) (now (swap .exit)) ≡ perform g op (flash (now (boot .entry)) (now (update .entry)) (now (swap .entry))) ⌝ }
+    requires { ⌜ (Shaped g (lent boot update swap)) × (SectorWithin g op) ⌝ }
+    ensures { λ _. ⌜ lent (boot .exit) (update .exit) (swap .exit) ≡ perform g op (lent (boot .entry) (update .entry) (swap .entry)) ⌝ }
 {
     match op {
         Operation::Erase(area, i) => erase_in(g, area, i, boot, update, swap),
@@ -78,7 +76,7 @@ pub fn do_operation(g: Geometry, op: Operation, boot: &mut [u8], update: &mut [u
 // The operation that is next, by the bytes and the phase within a leg.
 pub fn find_next(g: Geometry, job: Job, phase: u8, boot: &[u8], update: &[u8]) -> Next
     requires { ⌜ (Partition g (now boot)) × (Partition g (now update)) ⌝ }
-    ensures { λ r. ⌜ r ≡ orderedBy job phase (bootStatusAt g (now (boot .entry))) (updateStatusAt g (now (update .entry))) (flagsAt g (now (update .entry))) ⌝ }
+    ensures { λ r. ⌜ r ≡ nextBy job g phase (now (boot .entry)) (now (update .entry)) ⌝ }
 {
     match flash_status::read_statuses(g, boot, update) {
         Statuses::Allowed(b, u) => {
@@ -97,8 +95,8 @@ pub fn do_next(
     update: &mut [u8],
     swap: &mut [u8],
 ) -> Next
-    requires { ⌜ Shaped g (flash (now boot) (now update) (now swap)) ⌝ }
-    ensures { λ r. ⌜ stepped r (flash (now (boot .exit)) (now (update .exit)) (now (swap .exit))) ≡ step job g phase (flash (now (boot .entry)) (now (update .entry)) (now (swap .entry))) ⌝ }
+    requires { ⌜ Shaped g (lent boot update swap) ⌝ }
+    ensures { λ r. ⌜ stepped r (lent (boot .exit) (update .exit) (swap .exit)) ≡ step job g phase (lent (boot .entry) (update .entry) (swap .entry)) ⌝ }
 {
     let next = find_next(g, job, phase, boot, update);
     match next {
@@ -125,8 +123,8 @@ pub fn repeat_step(
     swap: &mut [u8],
     budget: u64,
 ) -> Ran
-    requires { ⌜ Shaped g (flash (now boot) (now update) (now swap)) ⌝ }
-    ensures { λ r. ⌜ ran r (flash (now (boot .exit)) (now (update .exit)) (now (swap .exit))) ≡ run job g budget 0 (flash (now (boot .entry)) (now (update .entry)) (now (swap .entry))) ⌝ }
+    requires { ⌜ Shaped g (lent boot update swap) ⌝ }
+    ensures { λ r. ⌜ ran r (lent (boot .exit) (update .exit) (swap .exit)) ≡ run job g budget 0 (lent (boot .entry) (update .entry) (swap .entry)) ⌝ }
 {
     let mut phase: u8 = 0;
     let mut count: u64 = 0;

@@ -4,6 +4,7 @@ use mathlib.Core.Bool.{Bool, _&&_}
 use mathlib.Core.List.{List}
 use Prim.Native.Nat.{ℕ}
 use lib.ListN.{length}
+use denote.Ref.{RefT, now}
 use lib.Dec.{eqb}
 use Rattle.numbers.specs.Answer.{Answer}
 use Rattle.flash.specs.declared.Geometry.{Geometry}
@@ -17,6 +18,10 @@ pub record Flash : Type 0 where
 
 abbrev pub flash : List ℕ → List ℕ → List ℕ → Flash
 flash b u s = record { boot = b; update = u; swap = s }
+
+-- the three lent buffers as a call finds them, or as it leaves them: what the references to them hold
+abbrev pub lent : RefT (List ℕ) → RefT (List ℕ) → RefT (List ℕ) → Flash
+lent b u s = flash (now b) (now u) (now s)
 
 -- a geometry within the limits, and a partition of exactly n × S bytes
 unfoldable pub partitionFits : Geometry → List ℕ → Bool

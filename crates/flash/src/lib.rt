@@ -4,7 +4,7 @@ ghost use Prim.Native.Nat.{_<_};
 ghost use lib.ListN.{length};
 ghost use Rattle.flash.specs.Sizes.{firmware, partitionSize, Limits, geometryAnswer, geometryOf};
 ghost use Rattle.flash.specs.Sectors.{SectorAt};
-ghost use Rattle.flash.specs.Buffers.{flash, partitionOf, flashOf};
+ghost use Rattle.flash.specs.Buffers.{lent, partitionOf, flashOf};
 
 // The number of a sector in its partition, from 0.
 pub struct SectorNumber(pub usize);
@@ -105,7 +105,7 @@ pub fn check_flash(
     update: &[u8],
     swap: &[u8],
 ) -> GeometryAnswer
-    ensures { λ r. ⌜ geometryAnswer r ≡ flashOf sectors size (flash (now (boot .entry)) (now (update .entry)) (now (swap .entry))) ⌝ }
+    ensures { λ r. ⌜ geometryAnswer r ≡ flashOf sectors size (lent (boot .entry) (update .entry) (swap .entry)) ⌝ }
 {
     match check_partition(sectors, size, boot) {
         GeometryAnswer::Fits(g) => {

@@ -14,7 +14,7 @@ use Rattle.header_tags.specs.declared.Tag.{Tag}
 use Rattle.header_tags.specs.declared.Tag.the-variants.{Found, End, TooShort, DoesNotFit, NoEnd}
 use Rattle.header_tags.proofs.Laws.{tags-step, next-within}
 use Rattle.header_places.specs.Table.{TagTable}
-use Rattle.header_places.specs.Judging.{rowOf, judge, placesIn, Within}
+use Rattle.header_places.specs.Judging.{rowOf, judge, placesIn, TagsFit}
 
 module _ (l : List ℕ) (x i : ℕ) where
   pub row-here : i < length l → getD l i 0 ≡ x → rowOf (drop i l) x ≡ 0
@@ -93,8 +93,8 @@ module _ {T : TagTable} {seen h : List ℕ} {at : ℕ} {O : Answer (List ℕ)} {
   no-end e = first inv g e
 
 -- a place that fits, put into its row
-pub within-set : {T : TagTable} {l : List ℕ} {n : ℕ} (r q s : ℕ) → Within T l n → length l ≡ length (T .types) → r < length (T .types)
-    → s ≡ getD (T .lengths) r 0 → q + 4 + s ≤ n → Within T (set l r q) n
+pub within-set : {T : TagTable} {l : List ℕ} {n : ℕ} (r q s : ℕ) → TagsFit T l n → length l ≡ length (T .types) → r < length (T .types)
+    → s ≡ getD (T .lengths) r 0 → q + 4 + s ≤ n → TagsFit T (set l r q) n
 within-set {T} {l} {n} r q s w rows below same fits = record { fits = λ i lt. go i lt (ℕ-discrete i r) }
   where
     go : (i : ℕ) → i < length (T .types) → Dec (i ≡ r) → getD (set l r q) i 0 + 4 + getD (T .lengths) i 0 ≤ n

@@ -8,22 +8,8 @@ use lib.Dec.{ltb, eqb}
 use Rattle.numbers.specs.Answer.{Answer, gives, refused}
 use Rattle.header_tags.specs.Walk.{firstTag, Tags, ended, broken, more, tagsAt}
 use Rattle.header_places.specs.Table.{TagTable}
-use Rattle.header_places.specs.declared.HeaderOutcome.{HeaderOutcome}
+use Rattle.numbers.specs.GivenBack.{headerAnswer}
 use Rattle.header_places.specs.declared.Places.{Places}
-use Rattle.header_places.specs.declared.HeaderOutcome.the-variants.{Accepted, TooShort, WrongMagic, WrongSize, TagDoesNotFit, WrongLength, Repeated, NoEnd, Missing}
-
--- The paper's number and place for each case of the code's outcome, "Numbers given back", rows 2 to 8 and 16.
--- The place of 4, 5 and 6 is the tag's first byte, that of 7 the header's length; at 8 the missing type stands for the place.
-abbrev pub answerOf : {A : Type 0} → HeaderOutcome → A → Answer A
-answerOf Accepted a = gives a
-answerOf TooShort a = refused 16 0
-answerOf WrongMagic a = refused 2 0
-answerOf WrongSize a = refused 3 4
-answerOf (TagDoesNotFit p) a = refused 4 p
-answerOf (WrongLength p) a = refused 5 p
-answerOf (Repeated p) a = refused 6 p
-answerOf (NoEnd p) a = refused 7 p
-answerOf (Missing t) a = refused 8 t
 
 -- The first row at which x stands, or the number of rows.
 unfoldable pub rowOf : List ℕ → ℕ → ℕ
@@ -64,9 +50,9 @@ placesOf (refused n p) = blank
 
 -- What a search for tags promises: its outcome and its places, both decided by the answer that the rules give.
 pub record Finds (answer : Answer (List ℕ)) (r : Places) : Type 0 where
-  pub outcome : answerOf (r .outcome) (r .places) ≡ answer
+  pub outcome : headerAnswer (r .outcome) (r .places) ≡ answer
   pub places : r .places ≡ placesOf answer
 
 -- A value of each row's length fits, behind type and length, at each row's place of a header of n bytes.
-pub record Within (T : TagTable) (places : List ℕ) (n : ℕ) : Type 0 where
+pub record TagsFit (T : TagTable) (places : List ℕ) (n : ℕ) : Type 0 where
   pub fits : (r : ℕ) → r < length (T .types) → getD places r 0 + 4 + getD (T .lengths) r 0 ≤ n

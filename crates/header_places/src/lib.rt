@@ -1,5 +1,6 @@
 // Where the tags of a rustBoot header stand, judged by a table of types and lengths.
 use header_tags::Tag;
+use numbers::HeaderOutcome;
 ghost use mathlib.Core.Path.{_≡_};
 ghost use Prim.Native.Nat.{_≤_};
 ghost use lib.ListN.{length};
@@ -8,21 +9,6 @@ ghost use Rattle.header_places.specs.Judging.{rowOf, placesIn, blank, Fi
 
 // How many rows the table of tags has.
 pub const ROWS: usize = 6;
-
-// What a header is: accepted, or refused, with the place.
-pub enum HeaderOutcome {
-    Accepted,
-    TooShort,
-    WrongMagic,
-    // The firmware's size is 0; in an image also: more than its sectors hold.
-    WrongSize,
-    TagDoesNotFit(usize),
-    WrongLength(usize),
-    Repeated(usize),
-    NoEnd(usize),
-    // The type that is missing.
-    Missing(usize),
-}
 
 // The places of the table's tags, 0 where a tag was not seen, and the outcome. The places of a refusal are blank: all 0.
 pub struct Places {

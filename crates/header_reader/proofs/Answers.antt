@@ -11,16 +11,17 @@ use borrow.Author.Tests.{lt-ltb, le-ltb, eq-eqb, ne-eqb, ltb-false, eqb-false}
 use Rattle.numbers.specs.Answer.{Answer, gives, refused, then}
 use Rattle.header_tags.specs.Bytes.{number}
 use Rattle.header_tags.proofs.Laws.{refused-gives}
-use Rattle.header_places.specs.declared.HeaderOutcome.{HeaderOutcome}
-use Rattle.header_places.specs.declared.HeaderOutcome.the-variants.{Accepted}
+use Rattle.numbers.specs.declared.HeaderOutcome.{HeaderOutcome}
+use Rattle.numbers.specs.declared.HeaderOutcome.the-variants.{Accepted}
 use Rattle.header_places.specs.declared.Places.{Places}
 use Rattle.header_places.specs.Table.{documentTable}
-use Rattle.header_places.specs.Judging.{answerOf, placesIn, Within, Finds}
+use Rattle.numbers.specs.GivenBack.{headerAnswer}
+use Rattle.header_places.specs.Judging.{placesIn, TagsFit, Finds}
 use Rattle.header_places.proofs.Fitting.{found-within}
-use Rattle.header_places.proofs.Refusals.{refusing}
+use Rattle.numbers.proofs.Refusals.{refusing}
 use Rattle.header_reader.specs.declared.Header.{Header}
 use Rattle.header_reader.specs.declared.HeaderAnswer.{HeaderAnswer}
-use Rattle.header_reader.specs.Reading.{magic, part, tagPlaces, valuesAt, readHeader, blank, valuesOf, Reads}
+use Rattle.header_reader.specs.Reading.{magic, bytesAt, tagPlaces, valuesAt, readHeader, blank, valuesOf, Reads}
 
 -- ---- where the tags stand
 
@@ -29,12 +30,12 @@ module _ (s : List ℕ) where
   unfolding tagPlaces
   short a = simp (lt-ltb _ _ a)
 
-  module _ (room : 256 ≤ length s) {m : ℕ} (em : m ≡ number (part (take 256 s) 0 4)) where
+  module _ (room : 256 ≤ length s) {m : ℕ} (em : m ≡ number (bytesAt (take 256 s) 0 4)) where
     pub no-magic : (m ≡ number magic → ⊥) → tagPlaces s ≡ refused 2 0
     unfolding tagPlaces
     no-magic b = simp (le-ltb _ _ room, ne-eqb _ _ (rw em at b))
 
-    module _ (is : m ≡ number magic) {z : ℕ} (ez : z ≡ number (part (take 256 s) 4 4)) where
+    module _ (is : m ≡ number magic) {z : ℕ} (ez : z ≡ number (bytesAt (take 256 s) 4 4)) where
       pub no-size : z ≡ 0 → tagPlaces s ≡ refused 3 4
       unfolding tagPlaces
       no-size b = simp (le-ltb _ _ room, eq-eqb _ _ (sym em ∙ is), eq-eqb _ _ (sym ez ∙ b))
@@ -46,16 +47,16 @@ module _ (s : List ℕ) where
 -- what places that are given tell of the bytes
 pub record Located (s l : List ℕ) : Type 0 where
   pub room : 256 ≤ length s
-  pub some : number (part (take 256 s) 4 4) ≡ 0 → ⊥
+  pub some : number (bytesAt (take 256 s) 4 4) ≡ 0 → ⊥
   pub found : placesIn documentTable (take 256 s) ≡ gives l
-  pub within : Within documentTable l 256
+  pub within : TagsFit documentTable l 256
 
 pub located : (s l : List ℕ) → tagPlaces s ≡ gives l → Located s l
 unfolding tagPlaces
 located s l e =
-    go (ltb (length s) 256) (eqb (number (part (take 256 s) 0 4)) (number magic)) (eqb (number (part (take 256 s) 4 4)) 0) refl refl e
+    go (ltb (length s) 256) (eqb (number (bytesAt (take 256 s) 0 4)) (number magic)) (eqb (number (bytesAt (take 256 s) 4 4)) 0) refl refl e
   where
-    go : (b₁ b₂ b₃ : Bool) → ltb (length s) 256 ≡ b₁ → eqb (number (part (take 256 s) 4 4)) 0 ≡ b₃
+    go : (b₁ b₂ b₃ : Bool) → ltb (length s) 256 ≡ b₁ → eqb (number (bytesAt (take 256 s) 4 4)) 0 ≡ b₃
         → cond b₁ (refused 16 0) (cond (not b₂) (refused 2 0) (cond b₃ (refused 3 4) (placesIn documentTable (take 256 s)))) ≡ gives l
         → Located s l
     go true b₂ b₃ x y e = refused-gives e
@@ -81,7 +82,7 @@ by-places s e = ap (λ (a : Answer (List ℕ)). then a (λ l. gives (valuesAt (t
 module _ (s : List ℕ) (r : Places) (finds : Finds (tagPlaces s) r) where
   module _ (is : r .outcome ≡ Accepted) where
     pub given : tagPlaces s ≡ gives (r .places)
-    given = sym (finds .outcome) ∙ ap (λ (o : HeaderOutcome). answerOf o (r .places)) is
+    given = sym (finds .outcome) ∙ ap (λ (o : HeaderOutcome). headerAnswer o (r .places)) is
 
     -- the tags are in order
     pub taken-in : {v : Header} → v ≡ valuesAt (take 256 s) (r .places) → Reads s (record { outcome = Accepted; header = v })
@@ -95,6 +96,6 @@ module _ (s : List ℕ) (r : Places) (finds : Finds (tagPlaces s) r) where
       let h = refusing (r .outcome) not in
       let f = by-places s (sym (finds .outcome) ∙ h .is (r .places)) in
       record {
-        outcome = ap (λ (o : HeaderOutcome). answerOf o (a .header)) (w .0) ∙ h .is (a .header) ∙ sym f;
+        outcome = ap (λ (o : HeaderOutcome). headerAnswer o (a .header)) (w .0) ∙ h .is (a .header) ∙ sym f;
         values = w .1 ∙ sym (ap valuesOf f);
       }

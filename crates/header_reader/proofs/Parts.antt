@@ -7,19 +7,19 @@ use native.Mathlib.Numerals.{add-one}
 use lib.ListN.{length, getD, take, drop, length-drop, replicate, length-replicate, drop-of-length-le}
 use lib.Seq.{take-length, drop-cons, length-take-le, take-all, take-add, drop-drop}
 use Rattle.header_tags.specs.Bytes.{number}
-use Rattle.header_reader.specs.Reading.{part}
+use Rattle.header_reader.specs.Reading.{bytesAt}
 
 module _ (h : List ℕ) where
-  pub length-part : (p n : ℕ) → p + n ≤ length h → length (part h p n) ≡ n
+  pub length-part : (p n : ℕ) → p + n ≤ length h → length (bytesAt h p n) ≡ n
   length-part p n fits = length-take-le n (drop p h) (omega (arith, length-drop p h))
 
-  part-cons : (p q n : ℕ) → p < length h → q ≡ p + 1 → part h p (suc n) ≡ getD h p 0 ∷ part h q n
+  part-cons : (p q n : ℕ) → p < length h → q ≡ p + 1 → bytesAt h p (suc n) ≡ getD h p 0 ∷ bytesAt h q n
   part-cons p q n fits e = rw (e, add-one, drop-cons h p 0 fits)
 
-  pub part-2 : (p : ℕ) → p + 2 ≤ length h → part h p 2 ≡ getD h p 0 ∷ getD h (p + 1) 0 ∷ []
+  pub part-2 : (p : ℕ) → p + 2 ≤ length h → bytesAt h p 2 ≡ getD h p 0 ∷ getD h (p + 1) 0 ∷ []
   part-2 p fits = rw (part-cons p (p + 1) 1 (omega arith) refl, part-cons (p + 1) (p + 2) 0 (omega arith) (omega arith))
 
-  pub part-4 : (p : ℕ) → p + 4 ≤ length h → part h p 4 ≡ getD h p 0 ∷ getD h (p + 1) 0 ∷ getD h (p + 2) 0 ∷ getD h (p + 3) 0 ∷ []
+  pub part-4 : (p : ℕ) → p + 4 ≤ length h → bytesAt h p 4 ≡ getD h p 0 ∷ getD h (p + 1) 0 ∷ getD h (p + 2) 0 ∷ getD h (p + 3) 0 ∷ []
   part-4 p fits =
       rw (
         part-cons p (p + 1) 3 (omega arith) refl,
@@ -28,27 +28,27 @@ module _ (h : List ℕ) where
         part-cons (p + 3) (p + 4) 0 (omega arith) (omega arith),
       )
 
-  pub num-2 : {r : ℕ} (p : ℕ) → p + 2 ≤ length h → r ≡ getD h p 0 + 256 * getD h (p + 1) 0 → r ≡ number (part h p 2)
+  pub num-2 : {r : ℕ} (p : ℕ) → p + 2 ≤ length h → r ≡ getD h p 0 + 256 * getD h (p + 1) 0 → r ≡ number (bytesAt h p 2)
   num-2 p fits e = rw (part-2 p fits) (omega arith)
 
-  pub num-4 : {r : ℕ} (p : ℕ) → p + 4 ≤ length h → r ≡ getD h p 0 + 256 * (getD h (p + 1) 0 + 256 * (getD h (p + 2) 0 + 256 * getD h (p + 3) 0)) → r ≡ number (part h p 4)
+  pub num-4 : {r : ℕ} (p : ℕ) → p + 4 ≤ length h → r ≡ getD h p 0 + 256 * (getD h (p + 1) 0 + 256 * (getD h (p + 2) 0 + 256 * getD h (p + 3) 0)) → r ≡ number (bytesAt h p 4)
   num-4 p fits e = rw (part-4 p fits) (omega arith)
 
-  part-8 : (p : ℕ) → part h p 8 ≡ part h p 4 ++ part h (p + 4) 4
-  part-8 p = take-add 4 4 (drop p h) ∙ ap (λ (l : List ℕ). part h p 4 ++ take 4 l) (drop-drop 4 p h)
+  part-8 : (p : ℕ) → bytesAt h p 8 ≡ bytesAt h p 4 ++ bytesAt h (p + 4) 4
+  part-8 p = take-add 4 4 (drop p h) ∙ ap (λ (l : List ℕ). bytesAt h p 4 ++ take 4 l) (drop-drop 4 p h)
 
-  pub num-8 : {a b : ℕ} (p : ℕ) → p + 8 ≤ length h → a ≡ number (part h p 4) → b ≡ number (part h (p + 4) 4) → a + 4294967296 * b ≡ number (part h p 8)
+  pub num-8 : {a b : ℕ} (p : ℕ) → p + 8 ≤ length h → a ≡ number (bytesAt h p 4) → b ≡ number (bytesAt h (p + 4) 4) → a + 4294967296 * b ≡ number (bytesAt h p 8)
   num-8 p fits ea eb =
-      let four : part h p 4 ≡ getD h p 0 ∷ getD h (p + 1) 0 ∷ getD h (p + 2) 0 ∷ getD h (p + 3) 0 ∷ [] = part-4 p (omega arith) in
+      let four : bytesAt h p 4 ≡ getD h p 0 ∷ getD h (p + 1) 0 ∷ getD h (p + 2) 0 ∷ getD h (p + 3) 0 ∷ [] = part-4 p (omega arith) in
       let fa = ea ∙ ap number four in
       rw (part-8 p, four) (omega arith)
 
   -- a part, copied over an array of zeros of its length
   pub copied : (p n : ℕ) {y : List ℕ} → p + n ≤ length h
       → y ≡ take (length (take (p + n - p) (drop p h))) (take (p + n - p) (drop p h)) ++ drop (length (take (p + n - p) (drop p h))) (replicate n 0)
-      → y ≡ part h p n
+      → y ≡ bytesAt h p n
   copied p n {y} fits e =
       let k : p + n - p ≡ n = omega arith in
-      let f : y ≡ take (length (part h p n)) (part h p n) ++ drop (length (part h p n)) (replicate n 0) = rw k at e in
-      let none : _≡_ {A = List ℕ} (drop (length (part h p n)) (replicate n 0)) [] = drop-of-length-le (replicate n 0) {i = length (part h p n)} (omega (arith, length-part p n fits, length-replicate {A = ℕ} n 0)) in
-      f ∙ ap (λ (l : List ℕ). take (length (part h p n)) (part h p n) ++ l) none ∙ append-nil _ ∙ take-length (part h p n)
+      let f : y ≡ take (length (bytesAt h p n)) (bytesAt h p n) ++ drop (length (bytesAt h p n)) (replicate n 0) = rw k at e in
+      let none : _≡_ {A = List ℕ} (drop (length (bytesAt h p n)) (replicate n 0)) [] = drop-of-length-le (replicate n 0) {i = length (bytesAt h p n)} (omega (arith, length-part p n fits, length-replicate {A = ℕ} n 0)) in
+      f ∙ ap (λ (l : List ℕ). take (length (bytesAt h p n)) (bytesAt h p n) ++ l) none ∙ append-nil _ ∙ take-length (bytesAt h p n)

@@ -8,7 +8,8 @@ use lib.Dec.{ltb, eqb}
 use Rattle.numbers.specs.Answer.{Answer, gives, refused, then}
 use Rattle.header_tags.specs.Bytes.{number}
 use Rattle.header_places.specs.Table.{documentTable}
-use Rattle.header_places.specs.Judging.{answerOf, placesIn}
+use Rattle.numbers.specs.GivenBack.{headerAnswer}
+use Rattle.header_places.specs.Judging.{placesIn}
 use Rattle.header_reader.specs.declared.Header.{Header}
 use Rattle.header_reader.specs.declared.HeaderAnswer.{HeaderAnswer}
 
@@ -17,12 +18,12 @@ abbrev pub magic : List ℕ
 magic = 0x43 ∷ 0x45 ∷ 0x52 ∷ 0x54 ∷ []
 
 -- n bytes from p on.
-abbrev pub part : List ℕ → ℕ → ℕ → List ℕ
-part h p n = take n (drop p h)
+abbrev pub bytesAt : List ℕ → ℕ → ℕ → List ℕ
+bytesAt h p n = take n (drop p h)
 
 -- The value of the tag of a row: behind type and length, as long as the table says.
 abbrev pub value : List ℕ → List ℕ → ℕ → List ℕ
-value h places row = part h (getD places row 0 + 4) (getD (documentTable .lengths) row 0)
+value h places row = bytesAt h (getD places row 0 + 4) (getD (documentTable .lengths) row 0)
 
 -- The values of a header whose tags stand at these places. Numbers are little-endian; digest, signature and hint are bytes as they stand.
 -- Without a hint the answer says so, and the hint's bytes are 0.
@@ -30,7 +31,7 @@ abbrev pub valuesAt : List ℕ → List ℕ → Header
 valuesAt h places =
     let hintless = eqb (getD places 5 0) 0 in
     record {
-      size = number (part h 4 4);
+      size = number (bytesAt h 4 4);
       version = number (value h places 0);
       timestamp = number (value h places 1);
       digest = value h places 2;
@@ -46,8 +47,8 @@ unfoldable pub tagPlaces : List ℕ → Answer (List ℕ)
 tagPlaces s =
     let h = take 256 s in
     cond (ltb (length s) 256) (refused 16 0)
-    (cond (not (eqb (number (part h 0 4)) (number magic))) (refused 2 0)
-    (cond (eqb (number (part h 4 4)) 0) (refused 3 4)
+    (cond (not (eqb (number (bytesAt h 0 4)) (number magic))) (refused 2 0)
+    (cond (eqb (number (bytesAt h 4 4)) 0) (refused 3 4)
     (placesIn documentTable h)))
 
 -- The reader: the values at these places.
@@ -74,5 +75,5 @@ valuesOf (refused n p) = blank
 
 -- What the reader promises of the bytes s: its outcome and its values, both decided by s alone.
 pub record Reads (s : List ℕ) (r : HeaderAnswer) : Type 0 where
-  pub outcome : answerOf (r .outcome) (r .header) ≡ readHeader s
+  pub outcome : headerAnswer (r .outcome) (r .header) ≡ readHeader s
   pub values : r .header ≡ valuesOf (readHeader s)

@@ -1,7 +1,7 @@
 // The reader of a rustBoot header: the values of its tags.
-use header_places::HeaderOutcome;
 use header_places::Places;
 use header_places::ROWS;
+use numbers::HeaderOutcome;
 ghost use mathlib.Core.Path.{_≡_};
 ghost use Prim.Native.Nat.{_+_, _*_, _≤_};
 ghost use mathlib.Core.Bool.{cond};
@@ -9,8 +9,8 @@ ghost use lib.ListN.{length, replicate};
 ghost use lib.Dec.{eqb};
 ghost use Rattle.header_tags.specs.Bytes.{number};
 ghost use Rattle.header_places.specs.Table.{documentTable};
-ghost use Rattle.header_places.specs.Judging.{Within, Finds};
-ghost use Rattle.header_reader.specs.Reading.{part, tagPlaces, valuesAt, blank, Reads};
+ghost use Rattle.header_places.specs.Judging.{TagsFit, Finds};
+ghost use Rattle.header_reader.specs.Reading.{bytesAt, tagPlaces, valuesAt, blank, Reads};
 
 // What a header carries.
 pub struct Header {
@@ -97,21 +97,21 @@ fn four_bytes(a: u8, b: u8, c: u8, d: u8) -> u32
 // The number of two, four and eight bytes at a place.
 fn read_u16(h: &[u8], at: usize) -> u16
     requires { ⌜ at + 2 ≤ length (now h) ⌝ }
-    ensures { λ r. ⌜ r ≡ number (part (now (h .entry)) at 2) ⌝ }
+    ensures { λ r. ⌜ r ≡ number (bytesAt (now (h .entry)) at 2) ⌝ }
 {
     two_bytes(h[at], h[at + 1])
 }
 
 pub fn read_u32(h: &[u8], at: usize) -> u32
     requires { ⌜ at + 4 ≤ length (now h) ⌝ }
-    ensures { λ r. ⌜ r ≡ number (part (now (h .entry)) at 4) ⌝ }
+    ensures { λ r. ⌜ r ≡ number (bytesAt (now (h .entry)) at 4) ⌝ }
 {
     four_bytes(h[at], h[at + 1], h[at + 2], h[at + 3])
 }
 
 pub fn read_u64(h: &[u8], at: usize) -> u64
     requires { ⌜ at + 8 ≤ length (now h) ⌝ }
-    ensures { λ r. ⌜ r ≡ number (part (now (h .entry)) at 8) ⌝ }
+    ensures { λ r. ⌜ r ≡ number (bytesAt (now (h .entry)) at 8) ⌝ }
 {
     let low = read_u32(h, at);
     let high = read_u32(h, at + 4);
@@ -121,7 +121,7 @@ pub fn read_u64(h: &[u8], at: usize) -> u64
 // The bytes at a place.
 pub fn copy_32(h: &[u8], at: usize) -> [u8; 32]
     requires { ⌜ at + 32 ≤ length (now h) ⌝ }
-    ensures { λ r. ⌜ r ≡ part (now (h .entry)) at 32 ⌝ }
+    ensures { λ r. ⌜ r ≡ bytesAt (now (h .entry)) at 32 ⌝ }
 {
     let mut b = [0u8; 32];
     bytes::copy(&h[at..at + 32], &mut b);
@@ -130,7 +130,7 @@ pub fn copy_32(h: &[u8], at: usize) -> [u8; 32]
 
 pub fn copy_64(h: &[u8], at: usize) -> [u8; 64]
     requires { ⌜ at + 64 ≤ length (now h) ⌝ }
-    ensures { λ r. ⌜ r ≡ part (now (h .entry)) at 64 ⌝ }
+    ensures { λ r. ⌜ r ≡ bytesAt (now (h .entry)) at 64 ⌝ }
 {
     let mut b = [0u8; 64];
     bytes::copy(&h[at..at + 64], &mut b);
@@ -140,7 +140,7 @@ pub fn copy_64(h: &[u8], at: usize) -> [u8; 64]
 // The hint, or zeros where its tag was not seen.
 fn read_hint(h: &[u8], place: usize) -> [u8; 32]
     requires { ⌜ place + 36 ≤ length (now h) ⌝ }
-    ensures { λ r. ⌜ r ≡ cond (eqb place 0) (replicate 32 0) (part (now (h .entry)) (place + 4) 32) ⌝ }
+    ensures { λ r. ⌜ r ≡ cond (eqb place 0) (replicate 32 0) (bytesAt (now (h .entry)) (place + 4) 32) ⌝ }
 {
     if place == 0 {
         return [0u8; 32];
@@ -150,7 +150,7 @@ fn read_hint(h: &[u8], place: usize) -> [u8; 32]
 
 // The values of the tags at the places of the table's rows.
 fn read_values(h: &[u8], places: [usize; ROWS]) -> Header
-    requires { ⌜ Within documentTable places (length (now h)) ⌝ }
+    requires { ⌜ TagsFit documentTable places (length (now h)) ⌝ }
     ensures { λ r. ⌜ r ≡ valuesAt (now (h .entry)) places ⌝ }
 {
     let version = places[0];

@@ -15,7 +15,7 @@ use Rattle.header_places.specs.Table.{documentTable}
 use Rattle.header_places.specs.Judging.{placesIn}
 use Rattle.header_places.proofs.Fitting.{found-within}
 use Rattle.header_reader.specs.declared.Header.{Header}
-use Rattle.header_reader.specs.Reading.{part, tagPlaces, valuesAt, readHeader}
+use Rattle.header_reader.specs.Reading.{bytesAt, tagPlaces, valuesAt, readHeader}
 use Rattle.header_reader.proofs.Parts.{length-part}
 use Rattle.header_reader.proofs.Answers.{located}
 use Rattle.header_writer.specs.Writing.{headerBytes}
@@ -27,7 +27,7 @@ use Rattle.header_round_trips.proofs.Back.{write-then-read}
 record Came (s : List ℕ) (v : Header) : Type 0 where
   l : List ℕ
   room : 256 ≤ length s
-  some : number (part (take 256 s) 4 4) ≡ 0 → ⊥
+  some : number (bytesAt (take 256 s) 4 4) ≡ 0 → ⊥
   found : placesIn documentTable (take 256 s) ≡ gives l
   is : v ≡ valuesAt (take 256 s) l
 
@@ -42,7 +42,7 @@ came s v e = go (tagPlaces s) refl e
         record { l = l; room = w .room; some = w .some; found = w .found; is = sym i }
     go (refused n p) f e = refused-gives e
 
-hint-length : (h : List ℕ) (p : ℕ) (b : Bool) → p + 4 + 32 ≤ length h → length (cond b (replicate 32 0) (part h (p + 4) 32)) ≡ 32
+hint-length : (h : List ℕ) (p : ℕ) (b : Bool) → p + 4 + 32 ≤ length h → length (cond b (replicate 32 0) (bytesAt h (p + 4) 32)) ≡ 32
 hint-length h p true fits = refl
 hint-length h p false fits = length-part h (p + 4) 32 fits
 
@@ -61,7 +61,7 @@ module _ (s : List ℕ) (bytes : (i : ℕ) → getD s i 0 < 256) where
       go (yes lt) = rw (getD-take 256 s i 0 lt) (bytes i)
       go (no ge) = rw (List·getD-eq-default h 0 {n = i} (omega (arith, length-take 256 s))) (lit< tt)
 
-  holdable : (l : List ℕ) → 256 ≤ length s → (number (part h 4 4) ≡ 0 → ⊥) → placesIn documentTable h ≡ gives l → Holdable (valuesAt h l)
+  holdable : (l : List ℕ) → 256 ≤ length s → (number (bytesAt h 4 4) ≡ 0 → ⊥) → placesIn documentTable h ≡ gives l → Holdable (valuesAt h l)
   holdable l room some found =
       let len : length h ≡ 256 = length-take-le 256 s room in
       let w = found-within h l (omega arith) found in
@@ -86,7 +86,7 @@ module _ (s : List ℕ) (bytes : (i : ℕ) → getD s i 0 < 256) where
     signature = valuesAt h l .signature;
     «auth_type» = valuesAt h l .«auth_type»;
     «has_hint» = valuesAt h l .«has_hint»;
-    hint = hint-carried (eqb (getD l 5 0) 0) (part h (getD l 5 0 + 4) 32) i;
+    hint = hint-carried (eqb (getD l 5 0) 0) (bytesAt h (getD l 5 0 + 4) 32) i;
   }
 
   again : (v : Header) → readHeader s ≡ gives v → (rest : List ℕ) → readHeader (headerBytes v ++ rest) ≡ gives v

@@ -14,7 +14,7 @@ use Rattle.header_tags.proofs.Found.{tagsOf, Writable, AllWritable, none, one, 
 use Rattle.header_places.specs.Table.{documentTable}
 use Rattle.header_places.specs.Judging.{judge, rowOf, placesIn}
 use Rattle.header_reader.specs.declared.Header.{Header}
-use Rattle.header_reader.specs.Reading.{magic, part, value, valuesAt, readHeader}
+use Rattle.header_reader.specs.Reading.{magic, bytesAt, value, valuesAt, readHeader}
 use Rattle.header_reader.proofs.Answers.{by-tags, by-places}
 use Rattle.header_writer.specs.Writing.{front, requiredFields, hintFields, ending, headerBytes}
 use Rattle.header_writer.proofs.Putting.{length-required, length-hint, length-header}
@@ -49,13 +49,13 @@ module _ (v : Header) (p : List ℕ) (d32 : length (v .digest) ≡ 32) (s64 : le
   length-laid : length laid ≡ 138 + length p
   length-laid = omega (arith, length-append (v .digest) x₃, length-append (v .signature) x₄)
 
-  digest-there : part laid 32 32 ≡ v .digest
+  digest-there : bytesAt laid 32 32 ≡ v .digest
   digest-there = take-at (v .digest) x₃ 32 d32
 
-  signature-there : part laid 68 64 ≡ v .signature
+  signature-there : bytesAt laid 68 64 ≡ v .signature
   signature-there = ap (take 64) (after-value (v .digest) x₃ 32 4 d32) ∙ take-at (v .signature) x₄ 64 s64
 
-  auth-there : part laid 136 2 ≡ littleEndian 2 (v .«auth_type»)
+  auth-there : bytesAt laid 136 2 ≡ littleEndian 2 (v .«auth_type»)
   auth-there = ap (take 2) (after-value (v .digest) x₃ 32 72 d32 ∙ after-value (v .signature) x₄ 64 4 s64)
 
   behind-there : drop 142 laid ≡ drop 4 p
@@ -126,18 +126,18 @@ module _ (v : Header) (f : Holdable v) where
   header-length =
       length-header v (length-required v (f .digest) (f .signature)) (length-hint (v .«has_hint») (v .hint) (f .hint))
 
-  magic-written : number magic ≡ number (part (headerBytes v) 0 4)
+  magic-written : number magic ≡ number (bytesAt (headerBytes v) 0 4)
   unfolding headerBytes
   magic-written = refl
 
-  size-written : v .size ≡ number (part (headerBytes v) 4 4)
+  size-written : v .size ≡ number (bytesAt (headerBytes v) 4 4)
   unfolding headerBytes
   size-written = sym (number-back 4 (v .size) (f .size))
 
   abbrev h : List ℕ
   h = laid v rest (f .digest) (f .signature)
 
-  hint-there : (b : Bool) → v .«has_hint» ≡ b → cond (eqb (hintPlace b) 0) (replicate 32 0) (part h (hintPlace b + 4) 32) ≡ carriedHint b (v .hint)
+  hint-there : (b : Bool) → v .«has_hint» ≡ b → cond (eqb (hintPlace b) 0) (replicate 32 0) (bytesAt h (hintPlace b + 4) 32) ≡ carriedHint b (v .hint)
   hint-there true e =
       ap (take 32) (behind-there v rest (f .digest) (f .signature))
       ∙ hint-behind (v .«has_hint») (v .hint) (ending (8 + length (fieldBytes fields))) e (f .hint)

@@ -13,7 +13,7 @@ use Rattle.header_tags.proofs.Found.{tagsOf, end-there, field-append}
 use Rattle.header_places.specs.Table.{documentTable}
 use Rattle.header_places.specs.Judging.{judge, rowOf, placesIn}
 use Rattle.header_reader.specs.declared.Header.{Header}
-use Rattle.header_reader.specs.Reading.{magic, part, valuesAt, readHeader}
+use Rattle.header_reader.specs.Reading.{magic, bytesAt, valuesAt, readHeader}
 use Rattle.header_reader.proofs.Answers.{by-tags, by-places}
 use Rattle.header_writer.specs.Writing.{front, requiredFields, hintFields, headerBytes}
 use Rattle.header_writer.proofs.Putting.{length-required}

@@ -9,7 +9,7 @@ use lib.Dec.{lit<}
 use lib.ListN.{length, getD, take, drop, length-drop, length-take, List·getD-eq-default}
 use lib.Seq.{getD-take, getD-drop, length-take-le}
 use Rattle.header_tags.specs.Bytes.{littleEndian, number}
-use Rattle.header_reader.specs.Reading.{part}
+use Rattle.header_reader.specs.Reading.{bytesAt}
 
 -- a number that fits n bytes is read back from them
 pub number-back : (n v : ℕ) → v < 256 ^ n → number (littleEndian n v) ≡ v
@@ -26,14 +26,14 @@ number-below (b ∷ l) h =
     omega (arith, number-below l (λ i. h (suc i)), h 0)
 
 module _ (h : List ℕ) (bytes : (i : ℕ) → getD h i 0 < 256) (p n : ℕ) where
-  part-bytes : (i : ℕ) → getD (part h p n) i 0 < 256
+  part-bytes : (i : ℕ) → getD (bytesAt h p n) i 0 < 256
   part-bytes i = go (decLt i n)
     where
-      go : Dec (i < n) → getD (part h p n) i 0 < 256
+      go : Dec (i < n) → getD (bytesAt h p n) i 0 < 256
       go (yes lt) = rw (getD-take n (drop p h) i 0 lt, getD-drop p h i 0) (bytes (p + i))
-      go (no ge) = rw (List·getD-eq-default (part h p n) 0 {n = i} (omega (arith, length-take n (drop p h)))) (lit< tt)
+      go (no ge) = rw (List·getD-eq-default (bytesAt h p n) 0 {n = i} (omega (arith, length-take n (drop p h)))) (lit< tt)
 
-  pub part-below : p + n ≤ length h → number (part h p n) < 256 ^ n
+  pub part-below : p + n ≤ length h → number (bytesAt h p n) < 256 ^ n
   part-below fits =
-      let l : length (part h p n) ≡ n = length-take-le n (drop p h) (omega (arith, length-drop p h)) in
-      rw l at (number-below (part h p n) part-bytes)
+      let l : length (bytesAt h p n) ≡ n = length-take-le n (drop p h) (omega (arith, length-drop p h)) in
+      rw l at (number-below (bytesAt h p n) part-bytes)

@@ -9,8 +9,6 @@ use Rattle.numbers.specs.Answer.{Answer, gives, refused}
 use Rattle.header_tags.specs.Bytes.{littleEndian, Field, fieldBytes}
 use Rattle.header_reader.specs.declared.Header.{Header}
 use Rattle.header_reader.specs.Reading.{magic}
-use Rattle.header_writer.specs.declared.WriteOutcome.{WriteOutcome}
-use Rattle.header_writer.specs.declared.WriteOutcome.the-variants.{Written, TooShort, ZeroSize}
 
 -- Bytes 0 to 3 are the magic, bytes 4 to 7 the firmware's size.
 abbrev pub front : Header → List ℕ
@@ -43,12 +41,6 @@ unfoldable pub headerBytes : Header → List ℕ
 headerBytes v =
     let tags = fieldBytes (requiredFields v ++ hintFields (v .«has_hint») (v .hint)) in
     front v ++ (tags ++ ending (8 + length tags))
-
--- The paper's number and place for each case of the code's answer.
-abbrev pub answerOf : WriteOutcome → Answer (Unit {0})
-answerOf Written = gives tt
-answerOf TooShort = refused 16 0
-answerOf ZeroSize = refused 3 4
 
 -- What a call of the writer leaves: its answer, and every byte of the lent output.
 pub record Write : Type 0 where

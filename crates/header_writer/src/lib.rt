@@ -1,21 +1,15 @@
 // The writer of a rustBoot header.
 use header_reader::Header;
+use numbers::WriteOutcome;
 use output::put;
 ghost use mathlib.Core.Path.{_≡_};
 ghost use Prim.Native.Nat.{_+_, _≤_, _<_};
 ghost use mathlib.Core.List.{_++_};
 ghost use lib.ListN.{length};
 ghost use Rattle.header_tags.specs.Bytes.{littleEndian, tagBytes, fieldBytes};
-ghost use Rattle.header_writer.specs.Writing.{front, requiredFields, hintFields, ending, answerOf, write, writeHeader};
+ghost use Rattle.numbers.specs.GivenBack.{writerAnswer};
+ghost use Rattle.header_writer.specs.Writing.{front, requiredFields, hintFields, ending, write, writeHeader};
 ghost use Rattle.output.specs.Puts.{Puts};
-
-// The writer's answer.
-pub enum WriteOutcome {
-    Written,
-    // The lent output is shorter than a header.
-    TooShort,
-    ZeroSize,
-}
 
 // A number's bytes, low byte first.
 fn u16_bytes(v: u16) -> [u8; 2]
@@ -116,7 +110,7 @@ fn put_end(out: &mut [u8], at: usize) -> usize
 
 // Writes a header into the first 256 bytes of a lent output, and no other. A refusal changes no byte.
 pub fn write_header(out: &mut [u8], v: Header) -> WriteOutcome
-    ensures { λ r. ⌜ write (answerOf r) (now (out .exit)) ≡ writeHeader v (now (out .entry)) ⌝ }
+    ensures { λ r. ⌜ write (writerAnswer r) (now (out .exit)) ≡ writeHeader v (now (out .entry)) ⌝ }
 {
     if out.len() < header_tags::HEADER_LENGTH {
         return WriteOutcome::TooShort;

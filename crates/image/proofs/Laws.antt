@@ -12,10 +12,11 @@ use Rattle.header_reader.specs.Reading.{blank, valuesOf}
 use Rattle.flash.specs.declared.Geometry.{Geometry}
 use Rattle.flash.specs.Sectors.{firmwareOf}
 use Rattle.flash.specs.Buffers.{partitionOf}
-use Rattle.image.specs.declared.ImageOutcome.{ImageOutcome}
-use Rattle.image.specs.declared.ImageOutcome.the-variants.{OutsideRules}
+use Rattle.numbers.specs.declared.ImageOutcome.{ImageOutcome}
+use Rattle.numbers.specs.declared.ImageOutcome.the-variants.{OutsideRules}
 use Rattle.image.specs.declared.ImageAnswer.{ImageAnswer}
-use Rattle.image.specs.Check.{answerOf, same, imageIn, checkImage, Checks}
+use Rattle.numbers.specs.GivenBack.{imageAnswer}
+use Rattle.image.specs.Check.{same, imageIn, checkImage, Checks}
 
 -- ---- the same bytes
 
@@ -49,10 +50,10 @@ same-is a b false f g = go (same a b) refl
 -- ---- a refusal, with a blank header
 
 pub turned : {a : Answer Header} {r : ImageAnswer} {o : ImageOutcome} {n p : ℕ} → (r .outcome ≡ o) × (r .header ≡ blank)
-    → answerOf o (r .header) ≡ refused n p → a ≡ refused n p → Checks a r
+    → imageAnswer o (r .header) ≡ refused n p → a ≡ refused n p → Checks a r
 turned {r = r} w x y =
     record {
-      outcome = ap (λ (z : ImageOutcome). answerOf z (r .header)) (w .0) ∙ x ∙ sym y;
+      outcome = ap (λ (z : ImageOutcome). imageAnswer z (r .header)) (w .0) ∙ x ∙ sym y;
       values = w .1 ∙ sym (ap valuesOf y);
     }
 

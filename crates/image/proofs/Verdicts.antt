@@ -12,23 +12,23 @@ use Rattle.header_tags.proofs.Laws.{refused-gives}
 use Rattle.digest_fips180.specs.Sha256.{sha256}
 use Rattle.flash.specs.declared.Geometry.{Geometry}
 use Rattle.flash.specs.Sectors.{firmwareOf}
-use Rattle.header_places.specs.declared.HeaderOutcome.the-variants.{Accepted, WrongSize}
+use Rattle.numbers.specs.declared.HeaderOutcome.the-variants.{Accepted, WrongSize}
 use Rattle.header_places.specs.declared.Places.{Places}
-use Rattle.header_places.specs.Judging as header
 use Rattle.header_places.specs.Judging.{Finds}
-use Rattle.header_places.proofs.Refusals.{refusing}
+use Rattle.numbers.proofs.Refusals.{refusing}
 use Rattle.header_reader.specs.declared.Header.{Header}
 use Rattle.header_reader.specs.declared.HeaderAnswer.{HeaderAnswer}
-use Rattle.header_reader.specs.Reading.{part, tagPlaces, readHeader, blank, valuesOf, Reads}
+use Rattle.header_reader.specs.Reading.{bytesAt, tagPlaces, readHeader, blank, valuesOf, Reads}
 use Rattle.header_reader.proofs.Answers.{by-places, given}
-use Rattle.image.specs.declared.ImageOutcome.{ImageOutcome}
-use Rattle.image.specs.declared.ImageOutcome.the-variants.{Good as GoodImage, OutsideRules, BadHeader, WrongDigest}
+use Rattle.numbers.specs.declared.ImageOutcome.{ImageOutcome}
+use Rattle.numbers.specs.declared.ImageOutcome.the-variants.{Good as GoodImage, OutsideRules, BadHeader, WrongDigest}
 use Rattle.image.specs.declared.ImageAnswer.{ImageAnswer}
 use Rattle.image.specs.declared.Release.{Release}
 use Rattle.image.specs.declared.ImageVerdict.{ImageVerdict}
 use Rattle.image.specs.declared.ImageVerdict.the-variants.{Good, Bad}
-use Rattle.image.specs.Check.{badHeader, answerOf, same, valuesIn, covered, judged, imageIn, Checks}
-use Rattle.image.specs.Verdict.{releaseOf, released, checkOf, own, ownOf, verdictOf, Judges}
+use Rattle.numbers.specs.GivenBack.{beside, refusalOf, badHeader, headerSays, imageAnswer, ownOf}
+use Rattle.image.specs.Check.{same, valuesIn, covered, judged, imageIn, Checks}
+use Rattle.image.specs.Verdict.{releaseOf, released, checkOf, verdictOf, Judges}
 use Rattle.image.proofs.Laws.{turned}
 
 -- ---- a verdict, and a bad image's outcome
@@ -53,14 +53,15 @@ says r right e =
     }
 
 -- an outcome that is not good has its own number
-bad-own : {A : Type 0} (x : Answer (Unit {0})) → badHeader {A = A} x ≡ refused (own (badHeader x) .number) (own (badHeader x) .place)
-bad-own (gives t) = refl
-bad-own (refused n p) = refl
+bad-own : {A : Type 0} (a : A) (x : Answer (Unit {0}))
+    → beside (badHeader x) a ≡ refused (refusalOf {A = Unit {0}} (badHeader x) .number) (refusalOf {A = Unit {0}} (badHeader x) .place)
+bad-own a (gives t) = refl
+bad-own a (refused n p) = refl
 
-own-is : {A : Type 0} (a : A) (o : ImageOutcome) → (o ≡ GoodImage → ⊥) → answerOf o a ≡ refused (ownOf o .number) (ownOf o .place)
+own-is : {A : Type 0} (a : A) (o : ImageOutcome) → (o ≡ GoodImage → ⊥) → imageAnswer o a ≡ refused (ownOf o .number) (ownOf o .place)
 own-is a GoodImage not = absurd (not refl)
 own-is a OutsideRules not = refl
-own-is a (BadHeader o) not = bad-own (header.answerOf o tt)
+own-is a (BadHeader o) not = bad-own a (headerSays o)
 own-is a WrongDigest not = refl
 
 -- ---- the verdict on places
@@ -79,7 +80,7 @@ module _ (b places : List ℕ) {z : ℕ} (size : z ≡ valuesIn b places .size) 
         sym (is
         ∙ ap (λ (k : ℕ). same (sha256 (take k (drop 256 b))) (take (at + 36 - (at + 4)) (drop (at + 4) (take 256 b)))) e
         ∙ ap (λ (k : ℕ). same (sha256 (covered b places)) (take k (drop (at + 4) (take 256 b)))) f
-        ∙ ap (λ (p : ℕ). same (sha256 (covered b places)) (part (take 256 b) (p + 4) 32)) place)
+        ∙ ap (λ (p : ℕ). same (sha256 (covered b places)) (bytesAt (take 256 b) (p + 4) 32)) place)
 
     pub wrong-digest : t ≡ false → Judges (judged b places) (Bad WrongDigest)
     wrong-digest no′ =
@@ -102,7 +103,7 @@ module _ (b : List ℕ) (r : Places) (finds : Finds (tagPlaces b) r) where
   bad-header not =
       let q = refusing (r .outcome) not in
       says (Bad (BadHeader (r .outcome))) refl
-      (ap (λ (a : Answer (Unit {0})). refused (own (badHeader a) .number) (own (badHeader a) .place)) (q .is tt)
+      (ap (λ (a : Answer (Unit {0})). refused (refusalOf {A = Unit {0}} (badHeader a) .number) (refusalOf {A = Unit {0}} (badHeader a) .place)) (q .says)
       ∙ sym (ap (λ (a : Answer (List ℕ)). released (then a (judged b))) (sym (finds .outcome) ∙ q .is (r .places))))
 
 -- ---- what the callers make of a verdict

@@ -7,27 +7,13 @@ use lib.Dec.{ltb, eqb}
 use lib.ListN.{length, take, drop}
 use Rattle.numbers.specs.Answer.{Answer, gives, refused, then}
 use Rattle.digest_fips180.specs.Sha256.{sha256}
-use Rattle.header_places.specs.Judging as header
+use Rattle.numbers.specs.GivenBack.{imageAnswer}
 use Rattle.header_reader.specs.declared.Header.{Header}
 use Rattle.header_reader.specs.Reading.{tagPlaces, valuesAt, valuesOf}
 use Rattle.flash.specs.declared.Geometry.{Geometry}
 use Rattle.flash.specs.Sectors.{firmwareOf}
 use Rattle.flash.specs.Buffers.{partitionOf}
-use Rattle.image.specs.declared.ImageOutcome.{ImageOutcome}
-use Rattle.image.specs.declared.ImageOutcome.the-variants.{Good, OutsideRules, BadHeader, WrongDigest}
 use Rattle.image.specs.declared.ImageAnswer.{ImageAnswer}
-
--- A bad header has the reader's own refusal. An accepted header is not bad: the 0 that stands for it is no number of 01.
-abbrev pub badHeader : {A : Type 0} → Answer (Unit {0}) → Answer A
-badHeader (gives t) = refused 0 0
-badHeader (refused n p) = refused n p
-
--- The paper's number and place for each case of the code's outcome.
-abbrev pub answerOf : {A : Type 0} → ImageOutcome → A → Answer A
-answerOf Good a = gives a
-answerOf OutsideRules a = refused 1 0
-answerOf (BadHeader o) a = badHeader (header.answerOf o tt)
-answerOf WrongDigest a = refused 9 256
 
 -- Two strings of bytes are the same.
 unfoldable pub same : List ℕ → List ℕ → Bool
@@ -61,5 +47,5 @@ checkImage n s l = then (partitionOf n s l) (λ g. imageIn (firmwareOf g l))
 
 -- What a check promises: its outcome, and the header's values, blank beside a refusal.
 pub record Checks (answer : Answer Header) (r : ImageAnswer) : Type 0 where
-  pub outcome : answerOf (r .outcome) (r .header) ≡ answer
+  pub outcome : imageAnswer (r .outcome) (r .header) ≡ answer
   pub values : r .header ≡ valuesOf answer

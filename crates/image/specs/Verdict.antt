@@ -6,12 +6,13 @@ use Rattle.numbers.specs.Answer.{Answer, gives, refused, then}
 use Rattle.flash.specs.declared.Geometry.{Geometry}
 use Rattle.flash.specs.Sectors.{firmwareOf}
 use Rattle.header_reader.specs.declared.Header.{Header}
-use Rattle.image.specs.declared.ImageOutcome.{ImageOutcome}
-use Rattle.image.specs.declared.ImageOutcome.the-variants.{Good as GoodImage}
+use Rattle.numbers.specs.declared.ImageOutcome.{ImageOutcome}
+use Rattle.numbers.specs.declared.ImageOutcome.the-variants.{Good as GoodImage}
 use Rattle.image.specs.declared.Release.{Release}
 use Rattle.image.specs.declared.ImageVerdict.{ImageVerdict}
 use Rattle.image.specs.declared.ImageVerdict.the-variants.{Good, Bad}
-use Rattle.image.specs.Check.{answerOf, imageIn}
+use Rattle.numbers.specs.GivenBack.{ownOf}
+use Rattle.image.specs.Check.{imageIn}
 
 -- Of a good image's values: its version, its size and its timestamp.
 abbrev pub releaseOf : Header → Release
@@ -24,21 +25,6 @@ released a = then a (λ v. gives (releaseOf v))
 -- The check as power-up's rules use it: the version of the image in the firmware sectors, or its refusal. The trailer sector has no say.
 unfoldable pub checkOf : Geometry → List ℕ → Answer ℕ
 checkOf g l = then (imageIn (firmwareOf g l)) (λ v. gives (v .version))
-
--- A bad image's own number and place, which 12, 13 and a turning-down reason carry. For a good image, which none of them is about, 0
--- stands there, which is no number of 01.
-pub record Own : Type 0 where
-  pub number : ℕ
-  pub place : ℕ
-
--- Those of an answer, whatever it would give.
-abbrev pub own : Answer (Unit {0}) → Own
-own (gives t) = record { number = 0; place = 0 }
-own (refused n p) = record { number = n; place = p }
-
--- Those of the code's outcome.
-abbrev pub ownOf : ImageOutcome → Own
-ownOf o = own (answerOf o tt)
 
 -- What the code's verdict says: a good image's release, or a bad one's own number and place.
 abbrev pub verdictOf : ImageVerdict → Answer Release

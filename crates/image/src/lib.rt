@@ -1,29 +1,20 @@
 // The check of a firmware image: its header, its size and its digest.
 use flash::Geometry;
 use flash::GeometryAnswer;
-use header_places::HeaderOutcome;
 use header_places::ROWS;
 use header_reader::Header;
+use numbers::HeaderOutcome;
+use numbers::ImageOutcome;
 ghost use mathlib.Core.Path.{_≡_};
 ghost use Prim.Native.Nat.{_≤_};
 ghost use lib.ListN.{length};
 ghost use Rattle.digest_fips180.specs.Sha256.{sha256};
 ghost use Rattle.flash.specs.Sectors.{Partition, firmwareOf};
 ghost use Rattle.header_places.specs.Table.{documentTable};
-ghost use Rattle.header_places.specs.Judging.{Within};
+ghost use Rattle.header_places.specs.Judging.{TagsFit};
 ghost use Rattle.header_reader.specs.Reading.{valuesAt, blank};
 ghost use Rattle.image.specs.Check.{same, judged, imageIn, checkImage, Checks};
 ghost use Rattle.image.specs.Verdict.{releaseOf, Judges};
-
-// What an image is: good, or refused.
-pub enum ImageOutcome {
-    Good,
-    // Geometry or length outside the rules.
-    OutsideRules,
-    // The reader's refusal; or its "wrong size", where the firmware sectors cannot hold the firmware.
-    BadHeader(HeaderOutcome),
-    WrongDigest,
-}
 
 // A good image hands back its header's values. The header of a refusal is blank.
 pub struct ImageAnswer {
@@ -58,7 +49,7 @@ fn has_digest(firmware: &[u8], stated: &[u8]) -> bool
 
 // The release of a header whose tags stand at these places.
 fn read_release(h: &[u8], places: [usize; ROWS]) -> Release
-    requires { ⌜ Within documentTable places (length (now h)) ⌝ }
+    requires { ⌜ TagsFit documentTable places (length (now h)) ⌝ }
     ensures { λ r. ⌜ r ≡ releaseOf (valuesAt (now (h .entry)) places) ⌝ }
 {
     let version = places[0];
@@ -73,7 +64,7 @@ fn read_release(h: &[u8], places: [usize; ROWS]) -> Release
 // The image whose header has its tags at these places. The firmware is digested where it lies, and the digest that is stated is
 // compared where it stands.
 fn judge_at(b: &[u8], places: [usize; ROWS]) -> ImageVerdict
-    requires { ⌜ (256 ≤ length (now b)) × Within documentTable places 256 ⌝ }
+    requires { ⌜ (256 ≤ length (now b)) × TagsFit documentTable places 256 ⌝ }
     ensures { λ r. ⌜ Judges (judged (now (b .entry)) places) r ⌝ }
 {
     let h = &b[..header_tags::HEADER_LENGTH];

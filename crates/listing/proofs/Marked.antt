@@ -12,24 +12,24 @@ use Rattle.header_tags.specs.Walk.{itemAt, itemFrom, tagsFrom}
 use Rattle.header_places.specs.Judging.{judge, rowOf, placesIn}
 use Rattle.header_reader.specs.Reading.{tagPlaces, readHeader}
 use Rattle.header_reader.proofs.Answers.{short, by-places}
-use Rattle.listing_lines.specs.Lines.{placesWithin, decimal, fields, refusal}
+use Rattle.listing_lines.specs.Lines.{digitsWithin, decimal, fields, refusal}
 use Rattle.listing.specs.Listing.{listing}
 use Rattle.listing.specs.Examples.{ListsExample, MissingVersion, ListsBytes, TooShort, FirstBytesOnly}
 
 pub lists-example : ListsExample
-unfolding placesWithin decimal fields
+unfolding digitsWithin decimal fields
 lists-example digest signature hint = refl
 
 pub missing-version : MissingVersion
-unfolding placesWithin decimal refusal
+unfolding digitsWithin decimal refusal
 missing-version = refl
 
 pub lists-bytes : ListsBytes
-unfolding readHeader tagPlaces placesIn judge rowOf tagsFrom itemFrom itemAt placesWithin decimal fields refusal
+unfolding readHeader tagPlaces placesIn judge rowOf tagsFrom itemFrom itemAt digitsWithin decimal fields refusal
 lists-bytes = (refl, refl)
 
 pub too-short : TooShort
-unfolding placesWithin decimal refusal
+unfolding digitsWithin decimal refusal
 too-short s h = ap listing (by-places s (short s h))
 
 -- a buffer and its first 256 bytes read alike

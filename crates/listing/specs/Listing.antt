@@ -8,8 +8,6 @@ use Rattle.numbers.specs.Answer.{Answer, gives, refused}
 use Rattle.header_reader.specs.declared.Header.{Header}
 use Rattle.header_reader.specs.Reading.{readHeader}
 use Rattle.listing_lines.specs.Lines.{fields, refusal}
-use Rattle.listing.specs.declared.Verdict.{Verdict}
-use Rattle.listing.specs.declared.Verdict.the-variants.{Accepted, Refused}
 
 -- What the program prints, and no more: the five lines, or the refusal's line.
 abbrev pub listing : Answer Header → List ℕ
@@ -19,11 +17,6 @@ listing (refused n p) = refusal n p
 -- The listing of the header that bytes begin with. The reader looks at the first 256; fewer are refusal 16 at 0.
 abbrev pub listingOf : List ℕ → List ℕ
 listingOf s = listing (readHeader s)
-
--- What the code's verdict says by 01's table "Numbers given back".
-abbrev pub saidBy : Verdict → Answer (Unit {0})
-saidBy Accepted = gives tt
-saidBy (Refused n p) = refused n p
 
 -- What a call of the listing promises: every byte of the lent output afterwards, the text and behind it what stood there,
 -- and as its count the text's length, which lies within the output.

@@ -1,2 +1,3 @@
 -- Laws of claims over lists of cases.
 pub mod Every
+pub mod Refusals

@@ -1,7 +1,7 @@
 -- Power-up by its first check.
 use mathlib.Core.Path.{_≡_, refl, ap}
 use Prim.Native.Nat.{ℕ}
-use Rattle.numbers.specs.Answer.{gives, refused}
+use Rattle.numbers.specs.Answer.{gives, refused, numbered}
 use Rattle.flash.specs.declared.Geometry.{Geometry}
 use Rattle.flash.specs.Sizes.{geometry}
 use Rattle.flash.specs.Buffers.{Flash, flashOf}
@@ -14,7 +14,7 @@ use Rattle.exchange.specs.PowerUp.{refusal, idle, carryOut, powerUp}
 -- ---- geometry and lengths are outside the rules
 
 module _ (n s : ℕ) (f : Flash) (e : refused 1 0 ≡ flashOf n s f) where
-  pub power-up-outside : (check : Check) (budget : ℕ) → idle (refusal 1 0 0) f ≡ powerUp check (geometry n s) f budget
+  pub power-up-outside : (check : Check) (budget : ℕ) → idle (refusal (numbered 1 0)) f ≡ powerUp check (geometry n s) f budget
   unfolding powerUp decide
   power-up-outside check budget = rw (flash-unfit n s f e) refl
 

@@ -1,5 +1,5 @@
 -- What the loader's own functions answer.
-use Rattle.power_up_decision.specs.declared.Reason.the-variants.{None}
+use Rattle.numbers.specs.declared.TurnDownReason.the-variants.{None}
 use Rattle.power_up.specs.declared.Outcome.{Outcome}
 use Rattle.power_up.specs.declared.PowerUpAnswer.{PowerUpAnswer}
 

@@ -1,3 +1,3 @@
 -- Power-up: what it promises, and what its own functions answer.
-pub mod Loader
+pub mod Delivered
 pub mod Inner

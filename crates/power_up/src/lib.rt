@@ -4,26 +4,23 @@ use exchange::Next;
 use flash::Geometry;
 use flash::GeometryAnswer;
 use image::ImageVerdict;
+use numbers::PowerUpRefusal;
+use numbers::TurnDownReason;
 use power_up_decision::Plan;
-use power_up_decision::Reason;
-use power_up_decision::Refusal;
 ghost use mathlib.Core.Path.{_≡_};
-ghost use Rattle.flash.specs.Sizes.{geometry};
 ghost use Rattle.flash.specs.Sectors.{Partition};
-ghost use Rattle.flash.specs.Buffers.{flash, Shaped};
-ghost use Rattle.flash_status.specs.StatusBytes.{bootStatusAt, updateStatusAt};
-ghost use Rattle.flash_flags.specs.SectorFlags.{flagsAt};
-ghost use Rattle.exchange.specs.Order.{orderedBy, run};
-ghost use Rattle.exchange.specs.PowerUp.{ifBootGood, doneOutcome, outcomeBy, worked, carryOut, powerUp};
+ghost use Rattle.flash.specs.Buffers.{lent, Shaped};
+ghost use Rattle.exchange.specs.Order.{nextBy, run};
+ghost use Rattle.exchange.specs.PowerUp.{ifBootGood, doneOutcome, outcomeBy, worked, carryOut};
 ghost use Rattle.image.specs.Verdict.{checkOf};
-ghost use Rattle.power_up_decision.specs.Numbers.{reasonOf};
+ghost use Rattle.numbers.specs.GivenBack.{reasonOf};
 ghost use Rattle.power_up_decision.specs.Inner.{planOf};
-ghost use Rattle.power_up.specs.Loader.{outcomeOf, answered};
+ghost use Rattle.power_up.specs.Delivered.{outcomeOf, answered, Delivers};
 ghost use Rattle.power_up.specs.Inner.{idleAnswer};
 
 // Document 01's "cut", "run", "run on test" and "run, fallen back", or a refusal.
 pub enum Outcome {
-    Refused(Refusal),
+    Refused(PowerUpRefusal),
     Cut,
     Run,
     RunOnTest,
@@ -33,7 +30,7 @@ pub enum Outcome {
 // The count is that of the operations done.
 pub struct PowerUpAnswer {
     pub outcome: Outcome,
-    pub reason: Reason,
+    pub reason: TurnDownReason,
     pub count: u64,
 }
 
@@ -43,7 +40,7 @@ fn idle(outcome: Outcome) -> PowerUpAnswer
 {
     PowerUpAnswer {
         outcome,
-        reason: Reason::None,
+        reason: TurnDownReason::None,
         count: 0,
     }
 }
@@ -55,7 +52,7 @@ fn if_boot_good(g: Geometry, outcome: Outcome, boot: &[u8]) -> Outcome
 {
     match image::judge_partition(g, boot) {
         ImageVerdict::Good(_) => outcome,
-        ImageVerdict::Bad(o) => Outcome::Refused(Refusal::BadBoot(o)),
+        ImageVerdict::Bad(o) => Outcome::Refused(PowerUpRefusal::BadBoot(o)),
     }
 }
 
@@ -73,7 +70,7 @@ fn done_outcome(job: Job) -> Outcome
 // The outcome of a job whose steps have come to a phase: "cut" where one more is ordered.
 fn outcome_at(g: Geometry, job: Job, phase: u8, boot: &[u8], update: &[u8]) -> Outcome
     requires { ⌜ (Partition g (now boot)) × (Partition g (now update)) ⌝ }
-    ensures { λ r. ⌜ outcomeOf r ≡ outcomeBy (orderedBy job phase (bootStatusAt g (now (boot .entry))) (updateStatusAt g (now (update .entry))) (flagsAt g (now (update .entry)))) job (checkOf g (now (boot .entry))) ⌝ }
+    ensures { λ r. ⌜ outcomeOf r ≡ outcomeBy (nextBy job g phase (now (boot .entry)) (now (update .entry))) job (checkOf g (now (boot .entry))) ⌝ }
 {
     match exchange_steps::find_next(g, job, phase, boot, update) {
         Next::Do(_) => Outcome::Cut,
@@ -84,14 +81,14 @@ fn outcome_at(g: Geometry, job: Job, phase: u8, boot: &[u8], update: &[u8]) -> O
 fn do_job(
     g: Geometry,
     job: Job,
-    reason: Reason,
+    reason: TurnDownReason,
     boot: &mut [u8],
     update: &mut [u8],
     swap: &mut [u8],
     budget: u64,
 ) -> PowerUpAnswer
-    requires { ⌜ Shaped g (flash (now boot) (now update) (now swap)) ⌝ }
-    ensures { λ r. ⌜ answered r (flash (now (boot .exit)) (now (update .exit)) (now (swap .exit))) ≡ worked checkOf g job (reasonOf reason) (run job g budget 0 (flash (now (boot .entry)) (now (update .entry)) (now (swap .entry)))) ⌝ }
+    requires { ⌜ Shaped g (lent boot update swap) ⌝ }
+    ensures { λ r. ⌜ answered r (lent (boot .exit) (update .exit) (swap .exit)) ≡ worked checkOf g job (reasonOf reason) (run job g budget 0 (lent (boot .entry) (update .entry) (swap .entry))) ⌝ }
 {
     let ran = exchange_steps::repeat_step(g, job, boot, update, swap, budget);
     PowerUpAnswer {
@@ -109,8 +106,8 @@ fn carry_out(
     swap: &mut [u8],
     budget: u64,
 ) -> PowerUpAnswer
-    requires { ⌜ Shaped g (flash (now boot) (now update) (now swap)) ⌝ }
-    ensures { λ r. ⌜ answered r (flash (now (boot .exit)) (now (update .exit)) (now (swap .exit))) ≡ carryOut checkOf g (flash (now (boot .entry)) (now (update .entry)) (now (swap .entry))) budget (planOf plan) ⌝ }
+    requires { ⌜ Shaped g (lent boot update swap) ⌝ }
+    ensures { λ r. ⌜ answered r (lent (boot .exit) (update .exit) (swap .exit)) ≡ carryOut checkOf g (lent (boot .entry) (update .entry) (swap .entry)) budget (planOf plan) ⌝ }
 {
     match plan {
         Plan::Refuse(refusal) => idle(Outcome::Refused(refusal)),
@@ -128,13 +125,13 @@ pub fn power_up(
     swap: &mut [u8],
     budget: u64,
 ) -> PowerUpAnswer
-    ensures { λ r. ⌜ answered r (flash (now (boot .exit)) (now (update .exit)) (now (swap .exit))) ≡ powerUp checkOf (geometry sectors size) (flash (now (boot .entry)) (now (update .entry)) (now (swap .entry))) budget ⌝ }
+    ensures { λ r. ⌜ Delivers sectors size (lent (boot .entry) (update .entry) (swap .entry)) budget r (lent (boot .exit) (update .exit) (swap .exit)) ⌝ }
 {
     match flash::check_flash(sectors, size, boot, update, swap) {
         GeometryAnswer::Fits(g) => {
             let plan = power_up_decision::decide(g, boot, update);
             carry_out(g, plan, boot, update, swap, budget)
         }
-        GeometryAnswer::Outside => idle(Outcome::Refused(Refusal::OutsideRules)),
+        GeometryAnswer::Outside => idle(Outcome::Refused(PowerUpRefusal::OutsideRules)),
     }
 }

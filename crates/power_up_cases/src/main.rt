@@ -1,12 +1,12 @@
 // Runs power-up, arm and confirm on real images, three sectors of 256: every budget from 0 to 25 and every pair of them, on an update and on
 // a fallback; document 01's marked cases on real images; and what is turned down or refused.
-use c_power_up::Ended;
 use digest_sha256::Hasher;
 use exchange_commands::CommandAnswer;
 use header_reader::Header;
 use libc::STDOUT_FILENO;
+use numbers::RefusedInside;
+use numbers::TurnDownReason;
 use power_up::Outcome;
-use power_up_decision::Reason;
 
 const SECTORS: usize = 3;
 
@@ -66,17 +66,17 @@ fn partition_of(version: u8, status: u8) -> [u8; PARTITION] {
 // ---- what is printed
 
 // A refusal by its number, with the own number and place of a bad image within it.
-fn print_refused(ended: Ended) {
-    print_number(b"refused ", ended.number as u64);
-    if ended.inner != 0 {
-        print_number(b" for ", ended.inner);
-        print_number(b" at ", ended.place);
+fn print_refused(r: RefusedInside) {
+    print_number(b"refused ", r.number as u64);
+    if r.inner != 0 {
+        print_number(b" for ", r.inner as u64);
+        print_number(b" at ", r.place as u64);
     }
 }
 
 fn print_outcome(o: Outcome) {
     match o {
-        Outcome::Refused(_) => print_refused(c_power_up::of_outcome(o)),
+        Outcome::Refused(r) => print_refused(numbers::of_power_up(r)),
         Outcome::Cut => print(b"cut"),
         Outcome::Run => print(b"run"),
         Outcome::RunOnTest => print(b"run on test"),
@@ -84,15 +84,15 @@ fn print_outcome(o: Outcome) {
     }
 }
 
-fn print_reason(r: Reason) {
-    let why = c_power_up::of_reason(r);
+fn print_reason(r: TurnDownReason) {
+    let why = numbers::of_reason(r);
     if why.number != 0 {
         print_number(b", turned down with ", why.number as u64);
-        print_number(b" at ", why.place);
+        print_number(b" at ", why.place as u64);
     }
 }
 
-fn print_answer(outcome: Outcome, count: u64, reason: Reason) {
+fn print_answer(outcome: Outcome, count: u64, reason: TurnDownReason) {
     print_outcome(outcome);
     print_number(b" with ", count);
     print_reason(reason);
@@ -260,9 +260,7 @@ fn fallbacks() {
 fn print_command(answer: CommandAnswer) {
     match answer {
         CommandAnswer::Done(n) => print_number(b"done with ", n),
-        CommandAnswer::Refused(_) => {
-            print_number(b"refused ", c_power_up::of_command(answer) as u64)
-        }
+        CommandAnswer::Refused(r) => print_number(b"refused ", numbers::of_command(r) as u64),
     }
 }
 

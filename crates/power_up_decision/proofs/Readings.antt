@@ -2,7 +2,7 @@
 use mathlib.Core.Path.{_≡_, refl, ap, _∙_}
 use mathlib.Core.List.{List}
 use Prim.Native.Nat.{ℕ}
-use Rattle.numbers.specs.Answer.{Answer, gives, refused}
+use Rattle.numbers.specs.Answer.{Answer, gives, refused, numbered}
 use Rattle.flash.specs.declared.Geometry.{Geometry}
 use Rattle.flash_status.specs.declared.BootStatus.{BootStatus}
 use Rattle.flash_status.specs.declared.UpdateStatus.{UpdateStatus}
@@ -16,7 +16,7 @@ use Rattle.exchange.specs.Decision.{Plan, refuse, decideBy, decideStatuses}
 -- the rules, by both statuses at once
 abbrev deciding : Flags → Answer ℕ → Answer ℕ → Answer (BootStatus × UpdateStatus) → Plan
 deciding flags u b (gives s) = decideBy (s .0) (s .1) flags u b
-deciding flags u b (refused n q) = refuse n 0 0
+deciding flags u b (refused n q) = refuse (numbered n q)
 
 decide-both : (B : Answer BootStatus) (U : Answer UpdateStatus) (flags : Flags) (u b : Answer ℕ) → decideStatuses B U flags u b ≡ deciding flags u b (bothStatuses B U)
 decide-both (gives x) (gives y) flags u b = refl
@@ -30,6 +30,6 @@ module _ (g : Geometry) (l k : List ℕ) (s : Statuses) (e : statusesOf s ≡ bo
   decide-allowed flags x y b u q =
       decide-both (bootStatusAt g l) (updateStatusAt g k) flags x y ∙ ap (deciding flags x y) (statuses-read g l k s e (Allowed b u) q)
 
-  pub decide-not : (flags : Flags) (x y : Answer ℕ) → s ≡ NotAllowed → decideStatuses (bootStatusAt g l) (updateStatusAt g k) flags x y ≡ refuse 10 0 0
+  pub decide-not : (flags : Flags) (x y : Answer ℕ) → s ≡ NotAllowed → decideStatuses (bootStatusAt g l) (updateStatusAt g k) flags x y ≡ refuse (numbered 10 0)
   decide-not flags x y q =
       decide-both (bootStatusAt g l) (updateStatusAt g k) flags x y ∙ ap (deciding flags x y) (statuses-read g l k s e NotAllowed q)

@@ -1,3 +1,2 @@
 -- The checks before the work: the numbers of their refusals, and what they answer.
-pub mod Numbers
 pub mod Inner

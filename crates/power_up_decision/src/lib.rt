@@ -5,42 +5,21 @@ use flash_flags::Flags;
 use flash_status::BootStatus;
 use flash_status::Statuses;
 use flash_status::UpdateStatus;
-use image::ImageOutcome;
 use image::ImageVerdict;
+use numbers::PowerUpRefusal;
+use numbers::TurnDownReason;
 ghost use mathlib.Core.Path.{_≡_};
 ghost use Rattle.flash.specs.Sectors.{Partition};
-ghost use Rattle.flash_status.specs.StatusBytes.{bootStatusAt, updateStatusAt};
 ghost use Rattle.flash_flags.specs.SectorFlags.{flagsAt};
 ghost use Rattle.image.specs.Verdict.{checkOf};
-ghost use Rattle.exchange.specs.Decision.{accept, acceptFallback, decideUpdate, decideFallback, decideClosing, decideBy, decideStatuses};
+ghost use Rattle.exchange.specs.Decision.{accept, acceptFallback, decideUpdate, decideFallback, decideClosing, decideBy, decideWithin};
 ghost use Rattle.power_up_decision.specs.Inner.{planOf};
-
-// Why a power-up is refused.
-pub enum Refusal {
-    // Geometry or a length outside the rules.
-    OutsideRules,
-    // A status byte that BOOT or UPDATE may not hold.
-    StatusNotAllowed,
-    FlagsMalformed,
-    // The image in BOOT is bad.
-    BadBoot(ImageOutcome),
-    // The image in UPDATE, to fall back to, is bad.
-    NoFallback(ImageOutcome),
-}
-
-// Why an update was turned down.
-pub enum Reason {
-    // None was.
-    None,
-    BadUpdate(ImageOutcome),
-    NotNewer,
-}
 
 // What a power-up is to do.
 pub enum Plan {
-    Refuse(Refusal),
+    Refuse(PowerUpRefusal),
     Plain,
-    Work(Job, Reason),
+    Work(Job, TurnDownReason),
 }
 
 // An update with all flags F: UPDATE is checked first, then BOOT, then the versions are compared.
@@ -52,14 +31,14 @@ fn accept_update(g: Geometry, boot: &[u8], update: &[u8]) -> Plan
         ImageVerdict::Good(coming) => match image::judge_partition(g, boot) {
             ImageVerdict::Good(running) => {
                 if running.version < coming.version {
-                    Plan::Work(Job::Update, Reason::None)
+                    Plan::Work(Job::Update, TurnDownReason::None)
                 } else {
-                    Plan::Work(Job::TurnDown, Reason::NotNewer)
+                    Plan::Work(Job::TurnDown, TurnDownReason::NotNewer)
                 }
             }
-            ImageVerdict::Bad(o) => Plan::Refuse(Refusal::BadBoot(o)),
+            ImageVerdict::Bad(o) => Plan::Refuse(PowerUpRefusal::BadBoot(o)),
         },
-        ImageVerdict::Bad(o) => Plan::Work(Job::TurnDown, Reason::BadUpdate(o)),
+        ImageVerdict::Bad(o) => Plan::Work(Job::TurnDown, TurnDownReason::BadUpdate(o)),
     }
 }
 
@@ -69,8 +48,8 @@ fn accept_fallback(g: Geometry, update: &[u8]) -> Plan
     ensures { λ r. ⌜ planOf r ≡ acceptFallback (checkOf g (now (update .entry))) ⌝ }
 {
     match image::judge_partition(g, update) {
-        ImageVerdict::Good(_) => Plan::Work(Job::Fallback, Reason::None),
-        ImageVerdict::Bad(o) => Plan::Refuse(Refusal::NoFallback(o)),
+        ImageVerdict::Good(_) => Plan::Work(Job::Fallback, TurnDownReason::None),
+        ImageVerdict::Bad(o) => Plan::Refuse(PowerUpRefusal::NoFallback(o)),
     }
 }
 
@@ -80,10 +59,10 @@ fn decide_update(g: Geometry, boot: &[u8], update: &[u8]) -> Plan
     ensures { λ r. ⌜ planOf r ≡ decideUpdate (flagsAt g (now (update .entry))) (checkOf g (now (update .entry))) (checkOf g (now (boot .entry))) ⌝ }
 {
     match flash_flags::read_flags(g, update) {
-        Flags::Malformed => Plan::Refuse(Refusal::FlagsMalformed),
+        Flags::Malformed => Plan::Refuse(PowerUpRefusal::FlagsMalformed),
         Flags::AllF => accept_update(g, boot, update),
-        Flags::At(_, _) => Plan::Work(Job::Update, Reason::None),
-        Flags::All0 => Plan::Work(Job::Update, Reason::None),
+        Flags::At(_, _) => Plan::Work(Job::Update, TurnDownReason::None),
+        Flags::All0 => Plan::Work(Job::Update, TurnDownReason::None),
     }
 }
 
@@ -92,10 +71,10 @@ fn decide_fallback(g: Geometry, update: &[u8]) -> Plan
     ensures { λ r. ⌜ planOf r ≡ decideFallback (flagsAt g (now (update .entry))) (checkOf g (now (update .entry))) ⌝ }
 {
     match flash_flags::read_flags(g, update) {
-        Flags::Malformed => Plan::Refuse(Refusal::FlagsMalformed),
+        Flags::Malformed => Plan::Refuse(PowerUpRefusal::FlagsMalformed),
         Flags::AllF => accept_fallback(g, update),
-        Flags::At(_, _) => Plan::Work(Job::Fallback, Reason::None),
-        Flags::All0 => Plan::Work(Job::Fallback, Reason::None),
+        Flags::At(_, _) => Plan::Work(Job::Fallback, TurnDownReason::None),
+        Flags::All0 => Plan::Work(Job::Fallback, TurnDownReason::None),
     }
 }
 
@@ -105,10 +84,10 @@ fn decide_closing(g: Geometry, update: &[u8]) -> Plan
     ensures { λ r. ⌜ planOf r ≡ decideClosing (flagsAt g (now (update .entry))) ⌝ }
 {
     match flash_flags::read_flags(g, update) {
-        Flags::Malformed => Plan::Refuse(Refusal::FlagsMalformed),
-        Flags::AllF => Plan::Refuse(Refusal::FlagsMalformed),
-        Flags::At(_, _) => Plan::Refuse(Refusal::FlagsMalformed),
-        Flags::All0 => Plan::Work(Job::Update, Reason::None),
+        Flags::Malformed => Plan::Refuse(PowerUpRefusal::FlagsMalformed),
+        Flags::AllF => Plan::Refuse(PowerUpRefusal::FlagsMalformed),
+        Flags::At(_, _) => Plan::Refuse(PowerUpRefusal::FlagsMalformed),
+        Flags::All0 => Plan::Work(Job::Update, TurnDownReason::None),
     }
 }
 
@@ -134,10 +113,10 @@ fn decide_by(g: Geometry, b: BootStatus, u: UpdateStatus, boot: &[u8], update: &
 // What a power-up is to do, with geometry and lengths within the rules.
 pub fn decide(g: Geometry, boot: &[u8], update: &[u8]) -> Plan
     requires { ⌜ (Partition g (now boot)) × (Partition g (now update)) ⌝ }
-    ensures { λ r. ⌜ planOf r ≡ decideStatuses (bootStatusAt g (now (boot .entry))) (updateStatusAt g (now (update .entry))) (flagsAt g (now (update .entry))) (checkOf g (now (update .entry))) (checkOf g (now (boot .entry))) ⌝ }
+    ensures { λ r. ⌜ planOf r ≡ decideWithin checkOf g (now (boot .entry)) (now (update .entry)) ⌝ }
 {
     match flash_status::read_statuses(g, boot, update) {
         Statuses::Allowed(b, u) => decide_by(g, b, u, boot, update),
-        Statuses::NotAllowed => Plan::Refuse(Refusal::StatusNotAllowed),
+        Statuses::NotAllowed => Plan::Refuse(PowerUpRefusal::StatusNotAllowed),
     }
 }

@@ -8,54 +8,29 @@ use borrow.Author.Tests.{eq-eqb}
 use Rattle.numbers.specs.Answer.{Answer}
 use Rattle.flash.specs.Sizes.{geometry}
 use Rattle.flash.specs.Buffers.{Flash}
-use Rattle.header_places.specs.declared.HeaderOutcome.{HeaderOutcome}
-use Rattle.header_places.specs.declared.HeaderOutcome.the-variants.{Accepted, TooShort, WrongMagic, WrongSize, TagDoesNotFit, WrongLength, Repeated, NoEnd, Missing}
-use Rattle.header_places.specs.Judging as header
 use Rattle.header_reader.specs.declared.Header.{Header}
 use Rattle.header_reader.specs.declared.HeaderAnswer.{HeaderAnswer}
 use Rattle.header_reader.specs.Reading.{readHeader, valuesOf, Reads}
 use Rattle.header_writer.specs.Writing.{Write, writeHeader}
 use Rattle.image.specs.declared.ImageAnswer.{ImageAnswer}
-use Rattle.image.specs.declared.ImageOutcome.{ImageOutcome}
-use Rattle.image.specs.declared.ImageOutcome.the-variants.{Good, OutsideRules, BadHeader, WrongDigest}
-use Rattle.image.specs.Check as image
 use Rattle.image.specs.Check.{Checks, checkImage}
 use Rattle.exchange.specs.PowerUp.{powerUp}
 use Rattle.exchange.specs.Commands.{Command}
 use Rattle.image.specs.Verdict.{checkOf}
-use Rattle.power_up_decision.specs.Numbers.{reasonOf}
+use Rattle.numbers.specs.GivenBack.{reasonOf, refusalOf, reasonRefusal, headerSays, imageSays}
 use Rattle.power_up.specs.declared.PowerUpAnswer.{PowerUpAnswer}
-use Rattle.power_up.specs.Loader.{outcomeOf, answered}
+use Rattle.power_up.specs.Delivered.{outcomeOf, answered}
 use Rattle.exchange_commands.specs.declared.CommandAnswer.{CommandAnswer}
 use Rattle.exchange_commands.specs.Numbers.{commandOf, commanded}
 use Rattle.header_tags.specs.Walk.{Item, walkAt, placeBehind}
-use Rattle.c_headers.specs.declared.Refused.{Refused}
+use Rattle.numbers.specs.declared.Refused.{Refused}
 use Rattle.c_power_up.specs.declared.Ended.{Ended}
-use Rattle.c_headers.specs.Numbers.{refusalOf, headerRefusal, imageRefusal}
 use Rattle.c_headers.specs.Rows.{headerNumbers, bytesOf, tagRow}
-use Rattle.c_power_up.specs.Outcomes.{endedOf, reasonRefusal, countOf, powerRow}
-use Rattle.c_headers.proofs.Refusals.{bad-is}
+use Rattle.c_power_up.specs.Outcomes.{endedOf, countOf, powerRow}
+use Rattle.numbers.proofs.Refusals.{beside-refusal}
 use Rattle.tainhosa.specs.Headers.{Given, given, laidOut, readAnswer, checkAnswer, Wrote, wrote, writeAnswer}
 use Rattle.tainhosa.specs.Walking.{Walked, tagAnswer}
 use Rattle.tainhosa.specs.Loading.{Loaded, poweredUp, powerUpAnswer, obeyed, commandAnswer}
-
--- a refusal is the same whatever an accepted one would give
-header-refusal : (o : HeaderOutcome) (v : Header) → headerRefusal o ≡ refusalOf (header.answerOf o v)
-header-refusal Accepted v = refl
-header-refusal TooShort v = refl
-header-refusal WrongMagic v = refl
-header-refusal WrongSize v = refl
-header-refusal (TagDoesNotFit p) v = refl
-header-refusal (WrongLength p) v = refl
-header-refusal (Repeated p) v = refl
-header-refusal (NoEnd p) v = refl
-header-refusal (Missing t) v = refl
-
-image-refusal : (o : ImageOutcome) (v : Header) → imageRefusal o ≡ refusalOf (image.answerOf o v)
-image-refusal Good v = refl
-image-refusal OutsideRules v = refl
-image-refusal (BadHeader h) v = sym (bad-is (Unit {0}) (header.answerOf h tt)) ∙ bad-is Header (header.answerOf h tt)
-image-refusal WrongDigest v = refl
 
 -- a header's values in buffers of their lengths
 pub laid : (n b n′ b′ : List ℕ) (x : Refused) (v : Header) → length n ≡ 6 → length b ≡ 128 → n′ ≡ headerNumbers (x .place) v → b′ ≡ bytesOf v
@@ -67,16 +42,16 @@ module _ (n b : List ℕ) (x : Refused) where
   out-of : (a : Answer Header) (v : Header) → x ≡ refusalOf a → v ≡ valuesOf a → given x v n b ≡ laidOut a n b
   out-of a v ex ev = ap₂ (λ (y : Refused) (w : Header). given y w n b) ex ev
 
-  pub read-laid : (s : List ℕ) (r : HeaderAnswer) → Reads s r → x ≡ headerRefusal (r .outcome) → given x (r .header) n b ≡ readAnswer s n b
+  pub read-laid : (s : List ℕ) (r : HeaderAnswer) → Reads s r → x ≡ refusalOf (headerSays (r .outcome)) → given x (r .header) n b ≡ readAnswer s n b
   read-laid s r e ex =
       out-of (readHeader s) (r .header)
-      (ex ∙ header-refusal (r .outcome) (r .header) ∙ ap (λ (a : Answer Header). refusalOf a) (e .outcome)) (e .values)
+      (ex ∙ beside-refusal (headerSays (r .outcome)) (r .header) ∙ ap (λ (a : Answer Header). refusalOf a) (e .outcome)) (e .values)
 
-  pub check-laid : (k size : ℕ) (l : List ℕ) (r : ImageAnswer) → Checks (checkImage k size l) r → x ≡ imageRefusal (r .outcome)
+  pub check-laid : (k size : ℕ) (l : List ℕ) (r : ImageAnswer) → Checks (checkImage k size l) r → x ≡ refusalOf (imageSays (r .outcome))
       → given x (r .header) n b ≡ checkAnswer k size l n b
   check-laid k size l r e ex =
       out-of (checkImage k size l) (r .header)
-      (ex ∙ image-refusal (r .outcome) (r .header) ∙ ap (λ (a : Answer Header). refusalOf a) (e .outcome)) (e .values)
+      (ex ∙ beside-refusal (imageSays (r .outcome)) (r .header) ∙ ap (λ (a : Answer Header). refusalOf a) (e .outcome)) (e .values)
 
 -- a row of one number, written
 pub one : (row : List ℕ) (x : ℕ) → length row ≡ 1 → set row 0 x ≡ x ∷ []

@@ -6,11 +6,11 @@ use lib.Dec.{eqb}
 use lib.ListN.{length}
 use Rattle.numbers.specs.Answer.{Answer}
 use Rattle.header_reader.specs.declared.Header.{Header}
-use Rattle.header_reader.specs.Reading.{part, readHeader, valuesOf}
+use Rattle.header_reader.specs.Reading.{bytesAt, readHeader, valuesOf}
 use Rattle.header_writer.specs.Writing.{Write, writeHeader}
 use Rattle.image.specs.Check.{checkImage}
-use Rattle.c_headers.specs.declared.Refused.{Refused}
-use Rattle.c_headers.specs.Numbers.{refusalOf}
+use Rattle.numbers.specs.declared.Refused.{Refused}
+use Rattle.numbers.specs.GivenBack.{refusalOf}
 use Rattle.c_headers.specs.Rows.{headerNumbers, bytesOf}
 
 -- The answer, and the caller's two buffers as the call returns.
@@ -43,11 +43,11 @@ valuesFrom size version timestamp auth hint b =
       size = size;
       version = version;
       timestamp = timestamp;
-      digest = part b 0 32;
-      signature = part b 32 64;
+      digest = bytesAt b 0 32;
+      signature = bytesAt b 32 64;
       «auth_type» = auth;
       «has_hint» = hint;
-      hint = part b 96 32;
+      hint = bytesAt b 96 32;
     }
 
 -- The answer, and the output and the row as the call returns.

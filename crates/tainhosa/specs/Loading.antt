@@ -9,8 +9,8 @@ use Rattle.flash.specs.Buffers.{Flash}
 use Rattle.exchange.specs.PowerUp.{PowerUp, powerUp}
 use Rattle.exchange.specs.Commands.{Command, arm, confirm}
 use Rattle.image.specs.Verdict.{checkOf}
-use Rattle.c_headers.specs.Numbers.{refusalOf}
-use Rattle.c_power_up.specs.Outcomes.{endedOf, reasonRefusal, countOf, powerRow}
+use Rattle.numbers.specs.GivenBack.{refusalOf, reasonRefusal}
+use Rattle.c_power_up.specs.Outcomes.{endedOf, countOf, powerRow}
 
 -- ---- power-up
 

@@ -6,7 +6,7 @@ use lib.Dec.{eqb}
 use lib.ListN.{length}
 use Rattle.numbers.specs.Answer.{Answer}
 use Rattle.header_tags.specs.Walk.{Item, walkAt, placeBehind}
-use Rattle.c_headers.specs.Numbers.{refusalOf}
+use Rattle.numbers.specs.GivenBack.{refusalOf}
 use Rattle.c_headers.specs.Rows.{tagRow}
 
 -- The answer, and the caller's row as the call returns.

@@ -1,9 +1,9 @@
 // The C interface of the library. A C caller passes a slice as a pointer and a length. Every answer is 0 or a refusal's number;
 // a buffer of another length than documented is refusal 1, and nothing changes.
-use c_headers::Refused;
 use header_reader::Header;
+use numbers::Refused;
 ghost use mathlib.Core.Path.{_≡_};
-ghost use Rattle.flash.specs.Buffers.{flash};
+ghost use Rattle.flash.specs.Buffers.{lent};
 ghost use Rattle.tainhosa.specs.Digest.{sha256Answer};
 ghost use Rattle.tainhosa.specs.Headers.{given, readAnswer, checkAnswer, valuesFrom, writeAnswer};
 ghost use Rattle.tainhosa.specs.Walking.{tagAnswer};
@@ -51,7 +51,7 @@ fn give(numbers: &mut [u64], bytes: &mut [u8], refused: Refused, v: Header) -> u
     if bytes.len() != HEADER_BYTES {
         return WRONG_LENGTH;
     }
-    c_headers::put_header(numbers, bytes, refused.place, v);
+    c_headers::put_header(numbers, bytes, refused.place as u64, v);
     refused.number
 }
 
@@ -63,7 +63,7 @@ pub extern "C" fn tainhosa_read_header(input: &[u8], numbers: &mut [u64], bytes:
     let read = header_reader::read_header(input);
     let outcome = read.outcome;
     let v = read.header;
-    give(numbers, bytes, c_headers::of_header(outcome), v)
+    give(numbers, bytes, numbers::of_header(outcome), v)
 }
 
 // Checks the image of a partition.
@@ -80,7 +80,7 @@ pub extern "C" fn tainhosa_check_image(
     let checked = image::check_image(sectors, size, partition);
     let outcome = checked.outcome;
     let v = checked.header;
-    give(numbers, bytes, c_headers::of_image(outcome), v)
+    give(numbers, bytes, numbers::of_image(outcome), v)
 }
 
 // Writes a header into the first 256 bytes of the output. The bytes are the digest, the signature and the hint; the row takes the
@@ -117,8 +117,8 @@ pub extern "C" fn tainhosa_write_header(
         has_hint,
         hint,
     };
-    let refused = c_headers::of_write(header_writer::write_header(out, v));
-    place[0] = refused.place;
+    let refused = numbers::of_write(header_writer::write_header(out, v));
+    place[0] = refused.place as u64;
     refused.number
 }
 
@@ -148,7 +148,7 @@ pub extern "C" fn tainhosa_power_up(
     budget: u64,
     answer: &mut [u64],
 ) -> u32
-    ensures { λ r. ⌜ record { answer = r; row = now (answer .exit); flash = flash (now (boot .exit)) (now (update .exit)) (now (swap .exit)) } ≡ powerUpAnswer sectors size (flash (now (boot .entry)) (now (update .entry)) (now (swap .entry))) budget (now (answer .entry)) ⌝ }
+    ensures { λ r. ⌜ record { answer = r; row = now (answer .exit); flash = lent (boot .exit) (update .exit) (swap .exit) } ≡ powerUpAnswer sectors size (lent (boot .entry) (update .entry) (swap .entry)) budget (now (answer .entry)) ⌝ }
 {
     if answer.len() != POWER_UP_NUMBERS {
         return WRONG_LENGTH;
@@ -157,14 +157,14 @@ pub extern "C" fn tainhosa_power_up(
     let outcome = a.outcome;
     let reason = a.reason;
     let ended = c_power_up::of_outcome(outcome);
-    let why = c_power_up::of_reason(reason);
+    let why = numbers::of_reason(reason);
     let row = [
         ended.outcome,
         a.count,
         ended.inner,
         ended.place,
         why.number as u64,
-        why.place,
+        why.place as u64,
     ];
     c_headers::put_numbers(answer, &row);
     ended.number
@@ -180,7 +180,7 @@ pub extern "C" fn tainhosa_arm(
     swap: &mut [u8],
     count: &mut [u64],
 ) -> u32
-    ensures { λ r. ⌜ record { answer = r; row = now (count .exit); flash = flash (now (boot .exit)) (now (update .exit)) (now (swap .exit)) } ≡ armAnswer sectors size (flash (now (boot .entry)) (now (update .entry)) (now (swap .entry))) (now (count .entry)) ⌝ }
+    ensures { λ r. ⌜ record { answer = r; row = now (count .exit); flash = lent (boot .exit) (update .exit) (swap .exit) } ≡ armAnswer sectors size (lent (boot .entry) (update .entry) (swap .entry)) (now (count .entry)) ⌝ }
 {
     if count.len() != COMMAND_NUMBERS {
         return WRONG_LENGTH;
@@ -201,7 +201,7 @@ pub extern "C" fn tainhosa_confirm(
     swap: &mut [u8],
     count: &mut [u64],
 ) -> u32
-    ensures { λ r. ⌜ record { answer = r; row = now (count .exit); flash = flash (now (boot .exit)) (now (update .exit)) (now (swap .exit)) } ≡ confirmAnswer sectors size (flash (now (boot .entry)) (now (update .entry)) (now (swap .entry))) (now (count .entry)) ⌝ }
+    ensures { λ r. ⌜ record { answer = r; row = now (count .exit); flash = lent (boot .exit) (update .exit) (swap .exit) } ≡ confirmAnswer sectors size (lent (boot .entry) (update .entry) (swap .entry)) (now (count .entry)) ⌝ }
 {
     if count.len() != COMMAND_NUMBERS {
         return WRONG_LENGTH;

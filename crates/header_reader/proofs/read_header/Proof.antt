@@ -1,8 +1,8 @@
 -- `read_header` meets its contract. Assumes nothing.
 use borrow.Author.Needs.{needs}
 use mathlib.Core.Path.{sym}
-use mathlib.Core.List.{[], _∷_}
 use types.Run.{miss}
+use Rattle.numbers.proofs.Refusals.{otherOutcomes}
 use lib.Seq.{length-take-le}
 use Rattle.header_reader.proofs.Answers.{located, given, taken-in, turned-on}
 use Rattle.header_reader.proofs.read_header.Statement.{statement}
@@ -30,7 +30,7 @@ returns c =
 returns-2 : tie.Need-returns-2
 returns-2 c =
     let c3 = c .before .before .before in
-    turned-on (c3 .before .before .args .s .now) (c3 .locate .result) (c3 .locate .ensures) (λ e. miss (1 ∷ 2 ∷ 3 ∷ 4 ∷ 5 ∷ 6 ∷ 7 ∷ 8 ∷ []) 0 tt (rw e at (c .before .match .keys2))) (c .refuse .ensures)
+    turned-on (c3 .before .before .args .s .now) (c3 .locate .result) (c3 .locate .ensures) (λ e. miss otherOutcomes 0 tt (rw e at (c .before .match .keys2))) (c .refuse .ensures)
 
 pub read-header-spec : {M : Type 1} → statement M
 read-header-spec =

@@ -1,6 +1,6 @@
 -- `judge` meets its contract. Assumes nothing.
-use mathlib.Core.List.{[], _∷_}
 use types.Run.{miss}
+use Rattle.numbers.proofs.Refusals.{otherOutcomes}
 use Rattle.header_reader.proofs.Answers.{located, given}
 use Rattle.image.proofs.Verdicts.{by-located, bad-header}
 use borrow.Author.Needs.{needs}
@@ -22,7 +22,7 @@ returns c =
 returns-2 : tie.Need-returns-2
 returns-2 c =
     let c2 = c .before .before in
-    bad-header (c2 .before .before .args .b .now) (c2 .locate .result) (c2 .locate .ensures) (λ e. miss (1 ∷ 2 ∷ 3 ∷ 4 ∷ 5 ∷ 6 ∷ 7 ∷ 8 ∷ []) 0 tt (rw e at (c .match .keys2)))
+    bad-header (c2 .before .before .args .b .now) (c2 .locate .result) (c2 .locate .ensures) (λ e. miss otherOutcomes 0 tt (rw e at (c .match .keys2)))
 
 pub judge-spec : {M : Type 1} → statement M
 judge-spec =

@@ -2,7 +2,7 @@ use mathlib.Core.Path.{ap, _∙_}
 use Rattle.flash.specs.Buffers.{flash}
 use Rattle.exchange.specs.PowerUp.{Outcome, idle}
 use Rattle.power_up.specs.declared.PowerUpAnswer.{PowerUpAnswer}
-use Rattle.power_up.specs.Loader.{answered}
+use Rattle.power_up.specs.Delivered.{answered}
 use borrow.Author.Needs.{needs}
 use Rattle.power_up.proofs.carry_out.Statement.{statement}
 use Rattle.power_up.proofs.carry_out.Tie as tie

@@ -5,7 +5,7 @@ use Rattle.flash.proofs.Answers.{flash-given}
 use Rattle.image.specs.Verdict.{checkOf}
 use Rattle.power_up_decision.specs.Inner.{planOf}
 use Rattle.power_up.specs.declared.PowerUpAnswer.{PowerUpAnswer}
-use Rattle.power_up.specs.Loader.{answered}
+use Rattle.power_up.specs.Delivered.{answered}
 use Rattle.power_up.proofs.Calls.{power-up-inside, power-up-outside}
 use borrow.Author.Needs.{needs}
 use Rattle.power_up.proofs.power_up.Statement.{statement}

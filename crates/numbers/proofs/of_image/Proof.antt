@@ -1,9 +1,9 @@
 use mathlib.Core.Path.{_∙_}
-use Rattle.header_places.specs.Judging as header
-use Rattle.c_headers.proofs.Refusals.{bad-is}
+use Rattle.numbers.specs.GivenBack.{headerSays}
+use Rattle.numbers.proofs.Refusals.{bad-is}
 use borrow.Author.Needs.{needs}
-use Rattle.c_headers.proofs.of_image.Statement.{statement}
-use Rattle.c_headers.proofs.of_image.Tie as tie
+use Rattle.numbers.proofs.of_image.Statement.{statement}
+use Rattle.numbers.proofs.of_image.Tie as tie
 
 returns : tie.Need-returns
 returns c = rw (c .before .enum-told .given .1) (c .refuse .ensures)
@@ -12,7 +12,7 @@ returns-2 : tie.Need-returns-2
 returns-2 c = rw (c .before .enum-told2 .given .1) (c .refuse2 .ensures)
 
 returns-3 : tie.Need-returns-3
-returns-3 c = let o = c .before .before .o .given in rw (o .1) (c .of-header .ensures ∙ bad-is (Unit {0}) (header.answerOf (o .0 .0) tt))
+returns-3 c = let o = c .before .before .o .given in rw (o .1) (c .of-header .ensures ∙ bad-is (Unit {0}) (headerSays (o .0 .0)))
 
 returns-4 : tie.Need-returns-4
 returns-4 c = rw (c .before .enum-told3 .given .1) (c .refuse3 .ensures)

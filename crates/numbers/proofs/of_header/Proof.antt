@@ -1,6 +1,6 @@
 use borrow.Author.Needs.{needs}
-use Rattle.c_headers.proofs.of_header.Statement.{statement}
-use Rattle.c_headers.proofs.of_header.Tie as tie
+use Rattle.numbers.proofs.of_header.Statement.{statement}
+use Rattle.numbers.proofs.of_header.Tie as tie
 
 returns : tie.Need-returns
 returns c = rw (c .before .enum-told .given .1) (c .refuse .ensures)

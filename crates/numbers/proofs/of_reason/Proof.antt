@@ -1,14 +1,12 @@
-use mathlib.Core.Path.{_∙_}
-use Rattle.c_power_up.proofs.Inner.{own-refusal}
 use borrow.Author.Needs.{needs}
-use Rattle.c_power_up.proofs.of_reason.Statement.{statement}
-use Rattle.c_power_up.proofs.of_reason.Tie as tie
+use Rattle.numbers.proofs.of_reason.Statement.{statement}
+use Rattle.numbers.proofs.of_reason.Tie as tie
 
 returns : tie.Need-returns
 returns c = rw (c .before .enum-told .given .1) (c .refuse .ensures)
 
 returns-2 : tie.Need-returns-2
-returns-2 c = rw (c .before .before .r .given .1) (c .of-image .ensures ∙ own-refusal (c .before .before .r .given .0 .0))
+returns-2 c = rw (c .before .before .r .given .1) (c .of-image .ensures)
 
 returns-3 : tie.Need-returns-3
 returns-3 c = rw (c .before .enum-told2 .given .1) (c .refuse2 .ensures)

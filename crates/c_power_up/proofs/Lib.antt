@@ -1,2 +1,0 @@
--- Laws of the numbers of a bad image.
-pub mod Inner

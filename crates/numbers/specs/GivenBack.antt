@@ -1,0 +1,111 @@
+-- Document 01, "Numbers given back": the number of 01's table, with its place, for each case of the code's answers. This is the one room
+-- for them: a new number is a new line here.
+use Prim.Native.Nat.{ℕ}
+use Rattle.numbers.specs.Answer.{Answer, gives, refused, Refusal, numbered, inside, Reason, noReason, because}
+use Rattle.numbers.specs.declared.HeaderOutcome.{HeaderOutcome}
+use Rattle.numbers.specs.declared.HeaderOutcome.the-variants.{Accepted, TooShort, WrongMagic, WrongSize, TagDoesNotFit, WrongLength, Repeated, NoEnd, Missing}
+use Rattle.numbers.specs.declared.WriteOutcome.{WriteOutcome}
+use Rattle.numbers.specs.declared.WriteOutcome.the-variants.{Written, TooShort as OutputTooShort, ZeroSize}
+use Rattle.numbers.specs.declared.ImageOutcome.{ImageOutcome}
+use Rattle.numbers.specs.declared.ImageOutcome.the-variants.{Good, OutsideRules, BadHeader, WrongDigest}
+use Rattle.numbers.specs.declared.PowerUpRefusal.{PowerUpRefusal}
+use Rattle.numbers.specs.declared.PowerUpRefusal.the-variants.{OutsideRules as FlashOutside, StatusNotAllowed, FlagsMalformed, BadBoot, NoFallback}
+use Rattle.numbers.specs.declared.TurnDownReason.{TurnDownReason}
+use Rattle.numbers.specs.declared.TurnDownReason.the-variants.{None, BadUpdate, NotNewer}
+use Rattle.numbers.specs.declared.CommandRefusal.{CommandRefusal}
+use Rattle.numbers.specs.declared.CommandRefusal.the-variants.{OutsideRules as CommandOutside, StatusNotAllowed as CommandStatus, FlagsMalformed as CommandFlags, WrongTime}
+use Rattle.numbers.specs.declared.Refused.{Refused}
+use Rattle.numbers.specs.declared.RefusedInside.{RefusedInside}
+
+-- ---- what is told beside values
+
+-- An outcome that stands beside values: where nothing is refused the call gives them.
+abbrev pub beside : {A : Type 0} → Answer (Unit {0}) → A → Answer A
+beside (gives t) a = gives a
+beside (refused n p) a = refused n p
+
+-- A number and a place as the code hands them out, both 0 where nothing is refused: 0 is no number of 01.
+abbrev pub refusedAt : ℕ → ℕ → Refused
+refusedAt n p = record { number = n; place = p }
+
+abbrev pub refusalOf : {A : Type 0} → Answer A → Refused
+refusalOf (gives a) = refusedAt 0 0
+refusalOf (refused n p) = refusedAt n p
+
+-- ---- the reader: 2 to 8 and 16
+
+-- The place of 4, 5 and 6 is the tag's first byte, that of 7 the header's length; at 8 the missing type stands for the place.
+abbrev pub headerSays : HeaderOutcome → Answer (Unit {0})
+headerSays Accepted = gives tt
+headerSays TooShort = refused 16 0
+headerSays WrongMagic = refused 2 0
+headerSays WrongSize = refused 3 4
+headerSays (TagDoesNotFit p) = refused 4 p
+headerSays (WrongLength p) = refused 5 p
+headerSays (Repeated p) = refused 6 p
+headerSays (NoEnd p) = refused 7 p
+headerSays (Missing t) = refused 8 t
+
+abbrev pub headerAnswer : {A : Type 0} → HeaderOutcome → A → Answer A
+headerAnswer o a = beside (headerSays o) a
+
+-- ---- the writer: 3 and 16
+
+abbrev pub writerAnswer : WriteOutcome → Answer (Unit {0})
+writerAnswer Written = gives tt
+writerAnswer OutputTooShort = refused 16 0
+writerAnswer ZeroSize = refused 3 4
+
+-- ---- the image check: 1, the reader's, and 9
+
+-- A bad header has the reader's own refusal. An accepted header is not bad: the 0 that stands for it is no number of 01.
+abbrev pub badHeader : {A : Type 0} → Answer (Unit {0}) → Answer A
+badHeader (gives t) = refused 0 0
+badHeader (refused n p) = refused n p
+
+abbrev pub imageSays : ImageOutcome → Answer (Unit {0})
+imageSays Good = gives tt
+imageSays OutsideRules = refused 1 0
+imageSays (BadHeader o) = badHeader (headerSays o)
+imageSays WrongDigest = refused 9 256
+
+abbrev pub imageAnswer : {A : Type 0} → ImageOutcome → A → Answer A
+imageAnswer o a = beside (imageSays o) a
+
+-- ---- power-up: 1, 10 to 13, and 15 as a reason
+
+-- A bad image's own number and place, which 12, 13 and a turning-down reason carry. For a good image, which none of them is about, 0
+-- stands there.
+abbrev pub ownOf : ImageOutcome → Refused
+ownOf o = refusalOf (imageSays o)
+
+abbrev pub powerUpSays : PowerUpRefusal → Refusal
+powerUpSays FlashOutside = numbered 1 0
+powerUpSays StatusNotAllowed = numbered 10 0
+powerUpSays FlagsMalformed = numbered 11 0
+powerUpSays (BadBoot o) = inside 12 (ownOf o .number) (ownOf o .place)
+powerUpSays (NoFallback o) = inside 13 (ownOf o .number) (ownOf o .place)
+
+-- "Turning down": its reason, UPDATE's own refusal or 15.
+abbrev pub reasonOf : TurnDownReason → Reason
+reasonOf None = noReason
+reasonOf (BadUpdate o) = because (ownOf o .number) (ownOf o .place)
+reasonOf NotNewer = because 15 0
+
+-- The three numbers of a refusal as the code hands them out: its own, then number and place of a bad image, or 0 and its own place.
+abbrev pub threeNumbers : Refusal → RefusedInside
+threeNumbers (numbered n p) = record { number = n; inner = 0; place = p }
+threeNumbers (inside n m p) = record { number = n; inner = m; place = p }
+
+-- A reason's number and place; 0 and 0 where there is none.
+abbrev pub reasonRefusal : Reason → Refused
+reasonRefusal noReason = refusedAt 0 0
+reasonRefusal (because n p) = refusedAt n p
+
+-- ---- arm and confirm: 1, 10, 11, 14
+
+abbrev pub commandNumber : CommandRefusal → ℕ
+commandNumber CommandOutside = 1
+commandNumber CommandStatus = 10
+commandNumber CommandFlags = 11
+commandNumber WrongTime = 14
