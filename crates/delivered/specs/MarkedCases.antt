@@ -15,7 +15,7 @@ pub data MarkedCase : Type 0 where
 -- What a case says, of the delivered check.
 abbrev pub Holds : MarkedCase → Type 0
 Holds (ofExchange c) = exchange.Holds checkOf c
-Holds (ofHeader c) = header.Holds c
+Holds (ofHeader c) = header.HeaderCaseHolds c
 
 -- The one list.
 abbrev pub markedCases : List MarkedCase
