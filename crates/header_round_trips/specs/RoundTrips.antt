@@ -22,7 +22,7 @@ pub record Holdable (v : Header) : Type 0 where
   pub signature : length (v .signature) ≡ 64
   pub hint : length (v .hint) ≡ 32
 
--- A header without a hint carries no hint's bytes: they are 0. Any other header is itself.
+-- The values that a header carries. Without a hint it carries no hint's bytes: they read as 0. Everything else is carried as it is.
 abbrev pub carriedHint : Bool → List ℕ → List ℕ
 carriedHint true hint = hint
 carriedHint false hint = replicate 32 0
@@ -40,7 +40,7 @@ carried v =
       hint = carriedHint (v .«has_hint») (v .hint);
     }
 
--- What a call of the writer with v leaves of the output lent to it, where u can be read from it afterwards.
+-- The writer, called with v and the output `out`, has left w: it took v, wrote the header and nothing else, and u reads back.
 pub record RoundTrip (w : Write) (out : List ℕ) (v u : Header) : Type 0 where
   -- The writer takes v: it does not refuse.
   pub taken : w .answer ≡ gives tt
@@ -67,7 +67,7 @@ ReadWriteRead =
     (s : List ℕ) → Bytes s → (v : Header) → readHeader s ≡ gives v
     → (out : List ℕ) → 256 ≤ length out → RoundTrip (writeHeader v out) out v v
 
--- What the reader gives can be held, so that the writer takes it.
+-- What the reader gives can be held: so the writer takes every header that the reader gave.
 abbrev pub ReadIsHoldable : Type 0
 ReadIsHoldable = (s : List ℕ) → Bytes s → (v : Header) → readHeader s ≡ gives v → Holdable v
 
