@@ -100,9 +100,9 @@ wrong-and-repeated size = refl
 
 pub header-cases : HeaderCases
 header-cases = (
-  without-hint _ (omega arith),
+  without-hint _ refl,
   (
-    with-hint _ (omega arith),
+    with-hint _ refl,
     (
       refuses (replicate 248 0xFF) 7 256 refl no-end,
       (
