@@ -15,7 +15,7 @@ pub data MarkedCase : Type 0 where
 -- What a case says, of the delivered check.
 abbrev pub MarkedCaseHolds : MarkedCase → Type 0
 MarkedCaseHolds (ofExchange c) = exchange.ExchangeCaseHolds checkOf c
-MarkedCaseHolds (ofHeader c) = header.Holds c
+MarkedCaseHolds (ofHeader c) = header.HeaderCaseHolds c
 
 -- The one list.
 abbrev pub markedCases : List MarkedCase

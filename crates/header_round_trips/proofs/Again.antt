@@ -18,8 +18,8 @@ use Rattle.header_reader.specs.declared.Header.{Header}
 use Rattle.header_reader.specs.Reading.{bytesAt, tagPlaces, valuesAt, readHeader}
 use Rattle.header_reader.proofs.Parts.{length-part}
 use Rattle.header_reader.proofs.Answers.{located}
-use Rattle.header_writer.specs.Writing.{headerBytes}
-use Rattle.header_round_trips.specs.RoundTrips.{Holdable, carriedHint, carried, ReadWriteRead}
+use Rattle.header_writer.specs.Writing.{writeHeader}
+use Rattle.header_round_trips.specs.RoundTrips.{Holdable, carriedHint, carried, Bytes, RoundTrip, ReadIsHoldable, ReadWriteRead}
 use Rattle.header_round_trips.proofs.Numbers.{part-below}
 use Rattle.header_round_trips.proofs.Back.{write-then-read}
 
@@ -50,7 +50,7 @@ hint-carried : (b : Bool) (x : List ℕ) → carriedHint (not b) (cond b (replic
 hint-carried true x = refl
 hint-carried false x = refl
 
-module _ (s : List ℕ) (bytes : (i : ℕ) → getD s i 0 < 256) where
+module _ (s : List ℕ) (bytes : Bytes s) where
   abbrev h : List ℕ
   h = take 256 s
 
@@ -89,13 +89,21 @@ module _ (s : List ℕ) (bytes : (i : ℕ) → getD s i 0 < 256) where
     hint = hint-carried (eqb (getD l 5 0) 0) (bytesAt h (getD l 5 0 + 4) 32) i;
   }
 
-  again : (v : Header) → readHeader s ≡ gives v → (rest : List ℕ) → readHeader (headerBytes v ++ rest) ≡ gives v
-  again v e rest =
+  -- what was read can be held, and carries what it holds
+  held : (v : Header) → readHeader s ≡ gives v → Holdable v
+  held v e =
       let c = came s v e in
-      let u : Header = valuesAt h (c .l) in
-      let back : readHeader (headerBytes u ++ rest) ≡ gives u =
-      write-then-read u rest (holdable (c .l) (c .room) (c .some) (c .found)) ∙ ap gives (carries (c .l)) in
-      rw (c .is) back
+      rw (c .is) (holdable (c .l) (c .room) (c .some) (c .found))
+
+  same-again : (v : Header) → readHeader s ≡ gives v → carried v ≡ v
+  same-again v e =
+      let c = came s v e in
+      rw (c .is) (carries (c .l))
+
+pub read-is-holdable : ReadIsHoldable
+read-is-holdable s bytes v e = held s bytes v e
 
 pub read-write-read : ReadWriteRead
-read-write-read s bytes v e rest = again s bytes v e rest
+read-write-read s bytes v e out room =
+    let trip : RoundTrip (writeHeader v out) out v (carried v) = write-then-read v (held s bytes v e) out room in
+    rw (same-again s bytes v e) at trip

@@ -4,9 +4,10 @@ use Prim.Native.Nat.{ℕ, _+_, _-_, _*_, _/_, _%_, _^_, _≤_, _<_}
 use mathlib.Core.List.{List, [], _∷_, _++_, append-assoc, append-nil}
 use mathlib.Core.Bool.{Bool, true, false, cond, not}
 use native.Mathlib.Omega.{arith}
-use lib.ListN.{length, getD, take, drop, replicate, length-append, length-replicate}
-use lib.Seq.{take-at, drop-append-add}
+use lib.ListN.{length, getD, take, drop, replicate, length-append, length-drop, length-replicate}
+use lib.Seq.{take-at, drop-at, drop-append-add}
 use lib.Dec.{lit<, eqb}
+use borrow.Author.Tests.{le-ltb, ne-eqb}
 use Rattle.numbers.specs.Answer.{Answer, gives, then}
 use Rattle.header_tags.specs.Walk.{Tags, ended, more, tagsAt}
 use Rattle.header_tags.specs.Bytes.{littleEndian, number, Field, tagBytes, fieldBytes}
@@ -16,9 +17,9 @@ use Rattle.header_places.specs.Judging.{judge, rowOf, placesIn}
 use Rattle.header_reader.specs.declared.Header.{Header}
 use Rattle.header_reader.specs.Reading.{magic, bytesAt, value, valuesAt, readHeader}
 use Rattle.header_reader.proofs.Answers.{by-tags, by-places}
-use Rattle.header_writer.specs.Writing.{front, requiredFields, hintFields, ending, headerBytes}
+use Rattle.header_writer.specs.Writing.{front, requiredFields, hintFields, ending, headerBytes, Write, write, writeHeader}
 use Rattle.header_writer.proofs.Putting.{length-required, length-hint, length-header}
-use Rattle.header_round_trips.specs.RoundTrips.{Holdable, carriedHint, carried, WriteThenRead, WritesHeaderLength}
+use Rattle.header_round_trips.specs.RoundTrips.{Holdable, carriedHint, carried, RoundTrip, WriteThenRead, WritesHeaderLength}
 use Rattle.header_round_trips.proofs.Numbers.{number-back}
 
 -- behind a value of n bytes
@@ -159,8 +160,9 @@ module _ (v : Header) (f : Holdable v) where
       hinted true = refl
       hinted false = refl
 
-pub write-then-read : WriteThenRead
-write-then-read v rest f =
+-- what is written reads back, whatever stands behind it
+pub header-read : (v : Header) → Holdable v → (rest : List ℕ) → readHeader (headerBytes v ++ rest) ≡ gives (carried v)
+header-read v f rest =
     let w : List ℕ = headerBytes v in
     let same : take 256 (w ++ rest) ≡ w = take-at w rest 256 (header-length v f) in
     let room : 256 ≤ length (w ++ rest) = omega (arith, length-append w rest, header-length v f) in
@@ -169,6 +171,27 @@ write-then-read v rest f =
     ∙ ap (λ (a : Answer (List ℕ)). then a (λ x. gives (valuesAt w x))) (places-written v f)
     ∙ ap (λ (l : List ℕ). gives (valuesAt l (written (v .«has_hint»)))) (header-laid v f)
     ∙ ap gives (values-written v f)
+
+-- the header in front of what stood behind it
+round-trip : {w : Write} (v : Header) → Holdable v → (out : List ℕ) → 256 ≤ length out → w ≡ write (gives tt) (headerBytes v ++ drop 256 out)
+    → RoundTrip w out v (carried v)
+round-trip {w} v f out room is =
+    let h : List ℕ = headerBytes v in
+    let b : List ℕ = drop 256 out in
+    let bytes : w .bytes ≡ h ++ b = ap (λ (x : Write). x .bytes) is in
+    let first : take 256 (w .bytes) ≡ h = ap (take 256) bytes ∙ take-at h b 256 (header-length v f) in
+    record {
+      taken = ap (λ (x : Write). x .answer) is;
+      header = first;
+      others = ap (drop 256) bytes ∙ drop-at h b 256 (header-length v f);
+      extent = ap length bytes ∙ omega (arith, length-append h b, header-length v f, length-drop 256 out);
+      back = ap readHeader bytes ∙ header-read v f b;
+      alone = λ rest. ap (λ (l : List ℕ). readHeader (l ++ rest)) first ∙ header-read v f rest;
+    }
+
+pub write-then-read : WriteThenRead
+unfolding writeHeader
+write-then-read v f out room = round-trip v f out (omega arith) (simp (le-ltb (length out) 256 (omega arith), ne-eqb (v .size) 0 (f .some)))
 
 pub writes-header-length : WritesHeaderLength
 writes-header-length v f = header-length v f

@@ -2,4 +2,5 @@
 pub mod Numbers
 pub mod Back
 pub mod Again
+pub mod Refusing
 pub mod Marked

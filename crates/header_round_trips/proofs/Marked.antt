@@ -15,12 +15,12 @@ use Rattle.header_places.specs.Judging.{judge, rowOf, placesIn}
 use Rattle.header_reader.specs.declared.Header.{Header}
 use Rattle.header_reader.specs.Reading.{magic, bytesAt, valuesAt, readHeader}
 use Rattle.header_reader.proofs.Answers.{by-tags, by-places}
-use Rattle.header_writer.specs.Writing.{front, requiredFields, hintFields, headerBytes}
+use Rattle.header_writer.specs.Writing.{front, requiredFields, hintFields, headerBytes, writeHeader}
 use Rattle.header_writer.proofs.Putting.{length-required}
 use Rattle.header_round_trips.specs.RoundTrips.{Holdable}
-use Rattle.header_round_trips.specs.Cases.{Holds, written, refusing, twoVersions, HeaderCases}
+use Rattle.header_round_trips.specs.Cases.{HeaderCaseHolds, written, refusing, twoVersions, HeaderCases}
 use Rattle.header_round_trips.proofs.Numbers.{number-back}
-use Rattle.header_round_trips.proofs.Back.{tags-written}
+use Rattle.header_round_trips.proofs.Back.{tags-written, write-then-read}
 
 -- case 7: the end stands behind the tags
 end-at : (v : Header) (n : ℕ) → 8 + length (fieldBytes (requiredFields v ++ hintFields (v .«has_hint») (v .hint))) ≡ n
@@ -42,27 +42,43 @@ tags-length v f b n e l =
     let d : length (fieldBytes (hintFields (v .«has_hint») (v .hint))) ≡ n = rw e l in
     omega arith
 
-without-hint : Holds (written false (more 8 0x0001 4 (more 16 0x0002 8 (more 28 0x0003 32 (more 64 0x0020 64 (more 132 0x0030 2 ended))))) 138)
-unfolding tagsOf fieldBytes
-without-hint v f e =
-    let tags : tagsOf 138 (hintFields (v .«has_hint») (v .hint)) ≡ ended = rw e in (
-      tags-written v f ∙ ap (λ (t : Tags). more 8 0x0001 4 (more 16 0x0002 8 (more 28 0x0003 32 (more 64 0x0020 64 (more 132 0x0030 2 t))))) tags,
-      end-at v 138 (tags-length v f false 0 e refl),
+-- the written header is what stands in the output's first 256 bytes
+in-output : (v : Header) → Holdable v → (out : List ℕ) → 256 ≤ length out → {tags : Tags} (n : ℕ) → tagsAt (headerBytes v) 8 ≡ tags
+    → itemAt (headerBytes v) n ≡ gives end
+    → (writeHeader v out .answer ≡ gives tt)
+    × (tagsAt (take 256 (writeHeader v out .bytes)) 8 ≡ tags)
+    × (itemAt (take 256 (writeHeader v out .bytes)) n ≡ gives end)
+in-output v f out room n x y =
+    let w = write-then-read v f out room in (
+      w .taken,
+      ap (λ (h : List ℕ). tagsAt h 8) (w .header) ∙ x,
+      ap (λ (h : List ℕ). itemAt h n) (w .header) ∙ y,
     )
 
-with-hint : Holds (written true
-    (more 8 0x0001 4 (more 16 0x0002 8 (more 28 0x0003 32 (more 64 0x0020 64 (more 132 0x0030 2 (more 138 0x1000 32 ended)))))) 174)
+-- without hint, and with hint; n is the place behind the tags
+without-hint : (n : ℕ) → 138 ≡ n
+    → HeaderCaseHolds (written false (more 8 0x0001 4 (more 16 0x0002 8 (more 28 0x0003 32 (more 64 0x0020 64 (more 132 0x0030 2 ended))))) n)
 unfolding tagsOf fieldBytes
-with-hint v f e =
+without-hint n at v f e out room =
+    let tags : tagsOf 138 (hintFields (v .«has_hint») (v .hint)) ≡ ended = rw e in
+    in-output v f out room n
+    (tags-written v f ∙ ap (λ (t : Tags). more 8 0x0001 4 (more 16 0x0002 8 (more 28 0x0003 32 (more 64 0x0020 64 (more 132 0x0030 2 t))))) tags)
+    (end-at v n (tags-length v f false 0 e refl ∙ at))
+
+with-hint : (n : ℕ) → 174 ≡ n
+    → HeaderCaseHolds (written true
+    (more 8 0x0001 4 (more 16 0x0002 8 (more 28 0x0003 32 (more 64 0x0020 64 (more 132 0x0030 2 (more 138 0x1000 32 ended)))))) n)
+unfolding tagsOf fieldBytes
+with-hint n at v f e out room =
     let tags : tagsOf 138 (hintFields (v .«has_hint») (v .hint)) ≡ more 138 0x1000 32 ended = rw (e, f .hint) in
-    let l : length (fieldBytes (hintFields true (v .hint))) ≡ 36 = omega (arith, length-append (v .hint) [], f .hint) in (
-      tags-written v f ∙ ap (λ (t : Tags). more 8 0x0001 4 (more 16 0x0002 8 (more 28 0x0003 32 (more 64 0x0020 64 (more 132 0x0030 2 t))))) tags,
-      end-at v 174 (tags-length v f true 36 e l),
-    )
+    let l : length (fieldBytes (hintFields true (v .hint))) ≡ 36 = omega (arith, length-append (v .hint) [], f .hint) in
+    in-output v f out room n
+    (tags-written v f ∙ ap (λ (t : Tags). more 8 0x0001 4 (more 16 0x0002 8 (more 28 0x0003 32 (more 64 0x0020 64 (more 132 0x0030 2 t))))) tags)
+    (end-at v n (tags-length v f true 36 e l ∙ at))
 
 -- cases 8 and 9: the tags are refused, whatever the size
 refuses : (bytes : List ℕ) (n p : ℕ) → length bytes ≡ 248
-    → ((size : ℕ) → placesIn documentTable (magic ++ (littleEndian 4 size ++ bytes)) ≡ refused n p) → Holds (refusing bytes n p)
+    → ((size : ℕ) → placesIn documentTable (magic ++ (littleEndian 4 size ++ bytes)) ≡ refused n p) → HeaderCaseHolds (refusing bytes n p)
 refuses bytes n p len tags size some fits =
     let s : List ℕ = magic ++ (littleEndian 4 size ++ bytes) in
     let same : take 256 s ≡ s = take-all 256 s (omega arith) in
@@ -84,9 +100,9 @@ wrong-and-repeated size = refl
 
 pub header-cases : HeaderCases
 header-cases = (
-  without-hint,
+  without-hint _ refl,
   (
-    with-hint,
+    with-hint _ refl,
     (
       refuses (replicate 248 0xFF) 7 256 refl no-end,
       (

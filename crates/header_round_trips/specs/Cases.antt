@@ -1,30 +1,33 @@
 -- Document 01, "Marked cases", 7 to 9, as kinds of case that one list can hold.
 use mathlib.Core.Path.{_≡_}
-use Prim.Native.Nat.{ℕ, _^_, _<_}
+use Prim.Native.Nat.{ℕ, _^_, _≤_, _<_}
 use mathlib.Core.List.{List, [], _∷_, _++_}
 use mathlib.Core.Bool.{Bool, true, false}
-use lib.ListN.{replicate}
+use lib.ListN.{length, take, replicate}
 use Rattle.numbers.specs.Answer.{gives, refused}
 use Rattle.numbers.specs.Every.{Every}
 use Rattle.header_tags.specs.Walk.{firstTag, end, itemAt, Tags, ended, more, tagsAt}
 use Rattle.header_tags.specs.Bytes.{littleEndian}
 use Rattle.header_reader.specs.declared.Header.{Header}
 use Rattle.header_reader.specs.Reading.{magic, readHeader}
-use Rattle.header_writer.specs.Writing.{headerBytes}
+use Rattle.header_writer.specs.Writing.{writeHeader}
 use Rattle.header_round_trips.specs.RoundTrips.{Holdable}
 
 pub data HeaderCase : Type 0 where
-  -- every written header, with or without hint, has just these tags (place, type, length), and its end at this place
+  -- every header that is written, with or without hint, into an output that has room has just these tags (place, type, length), and its
+  -- end at this place
   written : Bool → Tags → ℕ → HeaderCase
   -- every header with these bytes from 8 on is this refusal, at this place
   refusing : List ℕ → ℕ → ℕ → HeaderCase
 
--- What a case says.
-abbrev pub Holds : HeaderCase → Type 0
-Holds (written hint tags place) =
-    (v : Header) → Holdable v → v .«has_hint» ≡ hint
-    → (tagsAt (headerBytes v) firstTag ≡ tags) × (itemAt (headerBytes v) place ≡ gives end)
-Holds (refusing bytes number place) =
+-- What a case says. The written header is the first 256 bytes of what the writer leaves.
+abbrev pub HeaderCaseHolds : HeaderCase → Type 0
+HeaderCaseHolds (written hint tags place) =
+    (v : Header) → Holdable v → v .«has_hint» ≡ hint → (out : List ℕ) → 256 ≤ length out
+    → (writeHeader v out .answer ≡ gives tt)
+    × (tagsAt (take 256 (writeHeader v out .bytes)) firstTag ≡ tags)
+    × (itemAt (take 256 (writeHeader v out .bytes)) place ≡ gives end)
+HeaderCaseHolds (refusing bytes number place) =
     (size : ℕ) → 0 < size → size < 2 ^ 32 → readHeader (magic ++ (littleEndian 4 size ++ bytes)) ≡ refused number place
 
 -- Case 9's two version tags: one of length 4, then one of length 3, then padding.
@@ -45,4 +48,4 @@ headerCases =
 
 -- All of them, as one claim.
 abbrev pub HeaderCases : Type 0
-HeaderCases = Every Holds headerCases
+HeaderCases = Every HeaderCaseHolds headerCases

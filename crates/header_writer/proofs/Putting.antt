@@ -35,17 +35,17 @@ puts-end {p = p} {p₁ = p₁} le x y =
     puts-then x (puts-as y (take-replicate (256 - p₁) 256 255 (omega arith) ∙ ap (λ (k : ℕ). replicate k 255) e))
 
 -- the five required tags, one behind another
-pub puts-required : {d d₁ d₂ d₃ d₄ d₅ a t u : List ℕ} {p p₁ p₂ p₃ p₄ p₅ : ℕ} (v : Header)
+pub puts-required : {d d₁ d₂ d₃ d₄ d₅ a t u w₁ w₂ w₃ w₄ w₅ : List ℕ} {p p₁ p₂ p₃ p₄ p₅ : ℕ} (v : Header)
     → a ≡ littleEndian 4 (v .version) → t ≡ littleEndian 8 (v .timestamp) → u ≡ littleEndian 2 (v .«auth_type»)
-    → Puts d d₁ p (tagBytes 0x0001 a) p₁ → Puts d₁ d₂ p₁ (tagBytes 0x0002 t) p₂ → Puts d₂ d₃ p₂ (tagBytes 0x0003 (v .digest)) p₃
-    → Puts d₃ d₄ p₃ (tagBytes 0x0020 (v .signature)) p₄ → Puts d₄ d₅ p₄ (tagBytes 0x0030 u) p₅
-    → Puts d d₅ p (fieldBytes (requiredFields v)) p₅
+    → Puts d d₁ p w₁ p₁ → Puts d₁ d₂ p₁ w₂ p₂ → Puts d₂ d₃ p₂ w₃ p₃ → Puts d₃ d₄ p₃ w₄ p₄ → Puts d₄ d₅ p₄ w₅ p₅
+    → w₁ ≡ tagBytes 0x0001 a → w₂ ≡ tagBytes 0x0002 t → w₃ ≡ tagBytes 0x0003 (v .digest) → w₄ ≡ tagBytes 0x0020 (v .signature)
+    → w₅ ≡ tagBytes 0x0030 u → Puts d d₅ p (fieldBytes (requiredFields v)) p₅
 unfolding fieldBytes
-puts-required v ea et eu x₁ x₂ x₃ x₄ x₅ =
+puts-required v ea et eu x₁ x₂ x₃ x₄ x₅ e₁ e₂ e₃ e₄ e₅ =
     puts-as
-    (puts-then (puts-as x₁ (ap (tagBytes 0x0001) ea))
-    (puts-then (puts-as x₂ (ap (tagBytes 0x0002) et))
-    (puts-then x₃ (puts-then x₄ (puts-as x₅ (ap (tagBytes 0x0030) eu))))))
+    (puts-then (puts-as x₁ (e₁ ∙ ap (tagBytes 0x0001) ea))
+    (puts-then (puts-as x₂ (e₂ ∙ ap (tagBytes 0x0002) et))
+    (puts-then (puts-as x₃ e₃) (puts-then (puts-as x₄ e₄) (puts-as x₅ (e₅ ∙ ap (tagBytes 0x0030) eu))))))
     (ap (λ (l : List ℕ). tagBytes 0x0001 (littleEndian 4 (v .version)) ++ (tagBytes 0x0002 (littleEndian 8 (v .timestamp)) ++ (tagBytes 0x0003 (v .digest) ++ (tagBytes 0x0020 (v .signature) ++ l))))
     (sym (append-nil (tagBytes 0x0030 (littleEndian 2 (v .«auth_type»))))))
 

@@ -59,24 +59,18 @@ turned {r = r} w x y =
 
 -- ---- a partition
 
+-- two partitions that fit the geometry and agree in their firmware sectors get the same answer: the trailer sector has no say
+pub firmware-decides : (n s : ℕ) (l l′ : List ℕ) (g : Geometry) → partitionOf n s l ≡ gives g → partitionOf n s l′ ≡ gives g
+    → firmwareOf g l ≡ firmwareOf g l′ → checkImage n s l ≡ checkImage n s l′
+unfolding checkImage
+firmware-decides n s l l′ g e e′ same = rw (e, e′) (ap imageIn same)
+
 pub outside : (n s : ℕ) (l : List ℕ) {r : ImageAnswer} → refused 1 0 ≡ partitionOf n s l → (r .outcome ≡ OutsideRules) × (r .header ≡ blank)
     → Checks (checkImage n s l) r
 unfolding checkImage
-outside n s l e w = turned w refl (ap (λ (a : Answer Geometry). then a (λ g. imageIn (firmwareOf g l))) (sym e))
+outside n s l e w = turned w refl (rw (← e))
 
 pub inside : (n s : ℕ) (l : List ℕ) {b : List ℕ} {r : ImageAnswer} (g : Geometry) → gives g ≡ partitionOf n s l → b ≡ firmwareOf g l
     → Checks (imageIn b) r → Checks (checkImage n s l) r
 unfolding checkImage
-inside n s l {b} {r} g e p c =
-    let same : imageIn b ≡ checkImage n s l =
-    ap imageIn p ∙ ap (λ (a : Answer Geometry). then a (λ g. imageIn (firmwareOf g l))) e in
-    rw same at c
-
--- two partitions that fit the geometry and agree in their firmware sectors get the same answer
-pub firmware-decides : (n s : ℕ) (l l′ : List ℕ) (g : Geometry) → partitionOf n s l ≡ gives g → partitionOf n s l′ ≡ gives g
-    → firmwareOf g l ≡ firmwareOf g l′ → checkImage n s l ≡ checkImage n s l′
-unfolding checkImage
-firmware-decides n s l l′ g e e′ same =
-    ap (λ (a : Answer Geometry). then a (λ g. imageIn (firmwareOf g l))) e
-    ∙ ap imageIn same
-    ∙ sym (ap (λ (a : Answer Geometry). then a (λ g. imageIn (firmwareOf g l′))) e′)
+inside n s l g e p c = rw (← e, ← p) c

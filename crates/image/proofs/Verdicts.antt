@@ -94,17 +94,19 @@ module _ (b places : List ℕ) {z : ℕ} (size : z ≡ valuesIn b places .size) 
 -- ---- the verdict on bytes
 
 module _ (b : List ℕ) (r : Places) (finds : Finds (tagPlaces b) r) where
-  pub by-located : {v : ImageVerdict} → r .outcome ≡ Accepted → Judges (judged b (r .places)) v → Judges (imageIn b) v
-  unfolding imageIn
-  by-located is j = rw (given b r finds is) j
-
   pub bad-header : (r .outcome ≡ Accepted → ⊥) → Judges (imageIn b) (Bad (BadHeader (r .outcome)))
   unfolding imageIn
   bad-header not =
       let q = refusing (r .outcome) not in
+      let t : tagPlaces b ≡ refused (q .number) (q .place) = sym (finds .outcome) ∙ q .is (r .places) in
+      let e : imageIn b ≡ refused (q .number) (q .place) = simp t in
       says (Bad (BadHeader (r .outcome))) refl
       (ap (λ (a : Answer (Unit {0})). refused (refusalOf {A = Unit {0}} (badHeader a) .number) (refusalOf {A = Unit {0}} (badHeader a) .place)) (q .says)
-      ∙ sym (ap (λ (a : Answer (List ℕ)). released (then a (judged b))) (sym (finds .outcome) ∙ q .is (r .places))))
+      ∙ sym (ap released e))
+
+  pub by-located : {v : ImageVerdict} → r .outcome ≡ Accepted → Judges (judged b (r .places)) v → Judges (imageIn b) v
+  unfolding imageIn
+  by-located is j = rw (given b r finds is) j
 
 -- ---- what the callers make of a verdict
 

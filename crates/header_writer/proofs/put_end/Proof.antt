@@ -2,7 +2,7 @@
 use Prim.Native.Nat.{ℕ, _-_}
 use mathlib.Core.Path.{sym}
 use native.Mathlib.Omega.{arith}
-use lib.ListN.{replicate}
+use lib.ListN.{replicate, length-take}
 use lib.Seq.{length-take-le}
 use Rattle.header_writer.proofs.Putting.{puts-end}
 use borrow.Author.Needs.{needs}
@@ -10,10 +10,10 @@ use Rattle.header_writer.proofs.put_end.Statement.{statement}
 use Rattle.header_writer.proofs.put_end.Tie as tie
 
 slice-aggregate-put-2 : tie.Need-slice-aggregate-put-2
-slice-aggregate-put-2 c = sym (length-take-le {A = ℕ} (256 - c .before .before .before .before .put .result) (replicate 256 255) (omega arith))
+slice-aggregate-put-2 c = sym (length-take-le {A = ℕ} _ _ (omega arith))
 
 put-requires-2 : tie.Need-put-requires-2
-put-requires-2 c κs = omega (arith, length-take-le {A = ℕ} (256 - c .before .before .before .before .put .result) (replicate 256 255) (omega arith))
+put-requires-2 c κs = simp length-take (omega arith)
 
 returns : tie.Need-returns
 returns c =

@@ -1,5 +1,5 @@
 -- `put_required` meets its contract. Assumes nothing.
-use mathlib.Core.Path.{_≡_, sym, ap, _∙_}
+use mathlib.Core.Path.{_≡_, refl, sym, ap, _∙_}
 use Prim.Native.Nat.{ℕ}
 use native.Mathlib.Omega.{arith}
 use lib.ListN.{length, length-map}
@@ -53,7 +53,7 @@ returns c =
     let c28 = c25 .before .before .before in
     let c29 = c28 .before in
     let c31 = c29 .before .before in
-    puts-required (c31 .args .v) (c29 .u32-bytes .ensures) (c28 .u64-bytes .ensures) (c25 .u16-bytes .ensures) (c22 .put-tag .ensures) (c17 .put-tag2 .ensures) (c12 .put-tag3 .ensures) (c7 .put-tag4 .ensures) (c .before .before .put-tag5 .ensures)
+    puts-required (c31 .args .v) (c29 .u32-bytes .ensures) (c28 .u64-bytes .ensures) (c25 .u16-bytes .ensures) (c22 .put-tag .ensures) (c17 .put-tag2 .ensures) (c12 .put-tag3 .ensures) (c7 .put-tag4 .ensures) (c .before .before .put-tag5 .ensures) refl refl refl refl refl
 
 pub put-required-spec : {M : Type 1} → statement M
 put-required-spec =
