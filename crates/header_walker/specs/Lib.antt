@@ -1,3 +1,2 @@
 -- The offered walker over a header's tags.
 pub mod Walker
-pub mod Claims
