@@ -1,2 +1,3 @@
 -- The offered walker over a header's tags.
 pub mod Walker
+pub mod Claims
