@@ -90,35 +90,32 @@ pub fn read_tag(h: &[u8], at: usize) -> Tag
     tag_at(h, at)
 }
 
-// What a look from a place of a lent buffer gives, and where the walk goes on.
-pub struct Walked {
+// What one look gives: a tag, the end or a refusal, and where the walk goes on.
+pub struct Look {
     pub tag: Tag,
     pub next: usize,
 }
 
-// The tag from a place on of a lent buffer, whose first bytes are the header.
-fn walk_at(s: &[u8], at: usize) -> Tag
-    ensures { λ r. ⌜ itemOf r ≡ walkAt (now (s .entry)) at ⌝ }
-{
-    if s.len() < HEADER_LENGTH {
-        return Tag::TooShort;
-    }
-    read_tag(&s[..HEADER_LENGTH], at)
-}
-
-// The same, and where the walk goes on: behind the tag found; at the end or after a refusal, at the same place.
-pub fn walk_on(s: &[u8], at: usize) -> Walked
+// Looks from a place on into a lent buffer, whose first bytes are the header. The walk goes on behind the tag found; at the end or
+// after a refusal, at the same place.
+pub fn walk_on(s: &[u8], at: usize) -> Look
     ensures { λ r. ⌜ (itemOf (r .tag) ≡ walkAt (now (s .entry)) at) × (r .next ≡ placeBehind (walkAt (now (s .entry)) at) at) ⌝ }
 {
-    let tag = walk_at(s, at);
+    if s.len() < HEADER_LENGTH {
+        return Look {
+            tag: Tag::TooShort,
+            next: at,
+        };
+    }
+    let tag = read_tag(&s[..HEADER_LENGTH], at);
     let Tag::Found {
         place,
         kind: _,
         length,
     } = tag else {
-        return Walked { tag, next: at };
+        return Look { tag, next: at };
     };
-    Walked {
+    Look {
         tag,
         next: place + 4 + length,
     }

@@ -28,9 +28,9 @@ impl<'a> TagWalker<'a> {
     pub fn next(&mut self) -> Tag
         ensures { λ r. ⌜ (itemOf r ≡ walkerAnswer (now (self .entry))) × (now (self .exit) ≡ walkerAfter (now (self .entry))) ⌝ }
     {
-        let walked = header_tags::walk_on(self.header, self.at);
-        self.at = walked.next;
-        walked.tag
+        let look = header_tags::walk_on(self.header, self.at);
+        self.at = look.next;
+        look.tag
     }
 }
 

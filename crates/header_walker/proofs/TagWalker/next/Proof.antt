@@ -48,14 +48,14 @@ use Rattle.header_tags.specs.Walk.{itemOf}
 use Rattle.header_walker.specs.Walker.{walkerAnswer, walkerAfter}
 use Rattle.header_walker.specs.declared.TagWalker.{TagWalker}
 use Rattle.header_tags.specs.declared.Tag.{Tag}
-use Rattle.header_tags.specs.declared.Walked.{Walked}
+use Rattle.header_tags.specs.declared.Look.{Look}
 use Rattle.header_walker.proofs.Called.{returned}
 use Rattle.header_walker.proofs.TagWalker as T
 use Rattle.header_walker.proofs.TagWalker.Laws as T′
 use Rattle.header_tags.proofs.Tag as S
 use Rattle.header_tags.proofs.Tag.Laws as S′
-use Rattle.header_tags.proofs.Walked as R
-use Rattle.header_tags.proofs.Walked.Laws as R′
+use Rattle.header_tags.proofs.Look as R
+use Rattle.header_tags.proofs.Look.Laws as R′
 use Rattle.header_tags.proofs.walk_on as on
 use Rattle.header_tags.proofs.walk_on.Symbol as on-def
 use Rattle.header_tags.proofs.walk_on.Symbol.{name as #walk-on}
@@ -139,7 +139,7 @@ module _ {M : Type 1} (𝓤 : URA M) (H : Heap 𝓤) (A : Atoms 𝓤) (at-mem : 
         move ! (2 ∷ 3 ∷ []) $ join ! $ frame ! $ feqI ! (List Val) (vptr b o ∷ []) (vptr b o ∷ []) refl $ fjoin3 ! $ nothing ! $ move ! (1 ∷ 0 ∷ []) $ fjoin ! $ done !
 
     -- the tag that `walk_on` answers, by itself
-    tag-is : (r : Walked) (u : Val) → Is R.the-row r (u ∷ []) → Is S.the-row (r .tag) (S′.lowered (r .tag) ∷ [])
+    tag-is : (r : Look) (u : Val) → Is R.the-row r (u ∷ []) → Is S.the-row (r .tag) (S′.lowered (r .tag) ∷ [])
     tag-is r u is = subst (λ (vs : List Val). Is S.the-row (r .tag) vs) (S′.lowers .val-is (r .tag) _ (is .1 .1 .0)) (is .1 .1 .0)
 
     module _ (C : Calls 𝓤 H) (Λ : Loops 𝓤 H) (fm : FmC 𝓤 H (W .laws) C) (known : Triple 𝓤 (C #walk-on) WalkOn) where
