@@ -112,7 +112,8 @@ pub fn walk_on(s: &[u8], at: usize) -> Look
         place,
         kind: _,
         length,
-    } = tag else {
+    } = tag
+    else {
         return Look { tag, next: at };
     };
     Look {

@@ -5,13 +5,13 @@ use mathlib.Core.List.{List, _++_}
 use native.Mathlib.Omega.{arith}
 use lib.Dec.{lit≤}
 use lib.ListN.{length, take}
-use denote.Ref.{RefT, now}
+use denote.Ref.{now}
 use Rattle.numbers.specs.Answer.{Answer, gives, refused}
-use Rattle.header_tags.specs.Walk.{firstTag, Item, tag, end, nextItem, walkAt, placeBehind, Tags, ended as no-more, more, onItem, itemAt, itemFrom, tagsFrom, tagsAt}
+use Rattle.header_tags.specs.Walk.{firstTag, Item, tag, end, walkAt, placeBehind, Tags, ended as no-more, more, onItem, itemAt, itemFrom, tagsFrom, tagsAt}
 use Rattle.header_tags.proofs.Laws.{tags-step, walk-short, walk-header}
 use Rattle.header_walker.specs.Walker.{startOf, walkerAnswer, walkerAfter, afterCalls, callAnswer}
 use Rattle.header_walker.specs.declared.TagWalker.{TagWalker}
-use Rattle.header_walker.specs.Claims.{entryAt, AllTags, sample, Sample, TooFew, Stops, Repeats, Unread, Ends}
+use Rattle.header_walker.specs.Claims.{entryAt, AllTags, paddedHeader, GivesPadded, TooFew, Stops, Repeats, Unread, Ends}
 use Rattle.header_walker.proofs.Answers.{within, unread-at}
 
 -- the first of some calls is made first
@@ -100,14 +100,14 @@ module _ (s : List ℕ) (enough : 256 ≤ length s) where
 pub all-tags : AllTags
 all-tags s n e = tags-from (now s) e (startOf s) n refl
 
-sample-tags : tagsAt (take 256 sample) firstTag ≡ more 10 0x0042 1 (more 16 0x0001 0 no-more)
+padded-tags : tagsAt (take 256 paddedHeader) firstTag ≡ more 10 0x0042 1 (more 16 0x0001 0 no-more)
 unfolding tagsFrom itemFrom itemAt
-sample-tags = refl
+padded-tags = refl
 
-pub samples : Sample
-samples s n e =
+pub gives-padded : GivesPadded
+gives-padded s n e =
     let long : 256 ≤ length (now s) = rw e (lit≤ tt) in
-    all-tags s n long ∙ ap (λ (x : List ℕ). entryAt (tagsAt (take 256 x) firstTag) n) e ∙ ap (λ (l : Tags). entryAt l n) sample-tags
+    all-tags s n long ∙ ap (λ (x : List ℕ). entryAt (tagsAt (take 256 x) firstTag) n) e ∙ ap (λ (l : Tags). entryAt l n) padded-tags
 
 pub too-few : TooFew
 too-few s n e =

@@ -2,7 +2,7 @@
 -- proofs/Answers.antt and proofs/Calls.antt prove each of these.
 use mathlib.Core.Path.{_≡_}
 use Prim.Native.Nat.{ℕ, zero, suc, _+_, _<_, _≤_}
-use mathlib.Core.List.{List, [], _∷_, _++_}
+use mathlib.Core.List.{List, _∷_, _++_}
 use mathlib.Core.Logic.{_⊎_}
 use lib.ListN.{length, take, replicate}
 use denote.Ref.{RefT, now}
@@ -24,11 +24,11 @@ abbrev pub AllTags : Type 0
 AllTags = (s : RefT (List ℕ)) (n : ℕ) → 256 ≤ length (now s) → callAnswer n (startOf s) ≡ entryAt (tagsAt (take 256 (now s)) firstTag) n
 
 -- So in a header with padding, a tag of a skipped type, padding and a version of a wrong length, both tags come, and then the end for ever.
-abbrev pub sample : List ℕ
-sample = replicate 8 0 ++ (0xFF ∷ 0xFF ∷ 0x42 ∷ 0x00 ∷ 0x01 ∷ 0x00 ∷ 0xAA ∷ 0xFF ∷ 0x01 ∷ 0x00 ∷ 0x00 ∷ 0x00 ∷ 0x00 ∷ 0x00 ∷ replicate 234 0xFF)
+abbrev pub paddedHeader : List ℕ
+paddedHeader = replicate 8 0 ++ (0xFF ∷ 0xFF ∷ 0x42 ∷ 0x00 ∷ 0x01 ∷ 0x00 ∷ 0xAA ∷ 0xFF ∷ 0x01 ∷ 0x00 ∷ 0x00 ∷ 0x00 ∷ 0x00 ∷ 0x00 ∷ replicate 234 0xFF)
 
-abbrev pub Sample : Type 0
-Sample = (s : RefT (List ℕ)) (n : ℕ) → now s ≡ sample → callAnswer n (startOf s) ≡ entryAt (more 10 0x0042 1 (more 16 0x0001 0 ended)) n
+abbrev pub GivesPadded : Type 0
+GivesPadded = (s : RefT (List ℕ)) (n : ℕ) → now s ≡ paddedHeader → callAnswer n (startOf s) ≡ entryAt (more 10 0x0042 1 (more 16 0x0001 0 ended)) n
 
 -- Over fewer than 256 bytes every call is refused with 16, at 0.
 abbrev pub TooFew : Type 0

@@ -1,4 +1,4 @@
-use borrow.Author.Tests.{eq-eqb, ne-eqb}
+use borrow.Author.Tests.{ne-eqb}
 use lib.ListN.{length}
 use Rattle.tainhosa.proofs.Answers.{walked-on}
 use mathlib.Core.Path.{_∙_}
