@@ -22,17 +22,11 @@ def little(data):
     return int.from_bytes(data, "little")
 
 
-def read_header(data):
-    """The values of the header, by name, or Refused."""
+def tags(data):
+    """Each tag of the header as place, type and length, of every type, up to the end; or Refused."""
     if len(data) < HEADER:
         raise Refused(16)
     h = data[:HEADER]
-    if h[:4] != MAGIC:
-        raise Refused(2)
-    size = little(h[4:8])
-    if size == 0:
-        raise Refused(3, 4)
-    found = {}
     p = 8
     while True:
         if p == HEADER:
@@ -44,19 +38,46 @@ def read_header(data):
             raise Refused(4, p)
         kind = little(h[p : p + 2])
         if kind == 0:
-            break
+            return
         if p + 4 > HEADER:
             raise Refused(4, p)
         length = little(h[p + 2 : p + 4])
         if p + 4 + length > HEADER:
             raise Refused(4, p)
+        yield p, kind, length
+        p += 4 + length
+
+
+def walk(data):
+    """A line for each call of the walker, up to the end or a refusal, and one more: asked again it says the same."""
+    lines = []
+    try:
+        for place, kind, length in tags(data):
+            lines.append(f"place {place} type {kind} length {length}")
+        last = "end"
+    except Refused as refused:
+        last = str(refused)
+    return "".join(line + "\n" for line in [*lines, last, last])
+
+
+def read_header(data):
+    """The values of the header, by name, or Refused."""
+    if len(data) < HEADER:
+        raise Refused(16)
+    h = data[:HEADER]
+    if h[:4] != MAGIC:
+        raise Refused(2)
+    size = little(h[4:8])
+    if size == 0:
+        raise Refused(3, 4)
+    found = {}
+    for p, kind, length in tags(h):
         if kind in LENGTHS:
             if length != LENGTHS[kind]:
                 raise Refused(5, p)
             if kind in found:
                 raise Refused(6, p)
             found[kind] = h[p + 4 : p + 4 + length]
-        p += 4 + length
     for kind in sorted(LENGTHS):
         if kind != OPTIONAL and kind not in found:
             raise Refused(8, kind)

@@ -21,6 +21,7 @@ pub record Field : Type 0 where
 abbrev pub tagBytes : ℕ → List ℕ → List ℕ
 tagBytes t v = littleEndian 2 t ++ (littleEndian 2 (length v) ++ v)
 
+-- Tags one behind another, without padding.
 unfoldable pub fieldBytes : List Field → List ℕ
 fieldBytes [] = []
 fieldBytes (f ∷ l) = tagBytes (f .type) (f .value) ++ fieldBytes l

@@ -60,20 +60,23 @@ placeBehind (refused m q) p = p
 unfoldable pub walkAt : List ℕ → ℕ → Answer Item
 walkAt s p = cond (ltb (length s) 256) (refused 16 0) (nextItem (take 256 s) p)
 
--- All tags from p on, in their order, and how the walk over them stops.
+-- The tags of a header in their order, each by place, type and length, and how the walk over them stops: at the end, or by a refusal.
 pub data Tags : Type 0 where
   ended : Tags
   broken : ℕ → ℕ → Tags
   more : ℕ → ℕ → ℕ → Tags → Tags
 
+-- What the walk finds, and behind a tag the rest of the walk.
 abbrev pub onItem : Answer Item → (ℕ → Tags) → Tags
 onItem (gives (tag q t n)) rest = more q t n (rest (q + 4 + n))
 onItem (gives end) rest = ended
 onItem (refused m q) rest = broken m q
 
+-- All tags from p on, with n bytes left; every tag takes some of them.
 unfoldable pub tagsFrom : List ℕ → ℕ → ℕ → Tags
 tagsFrom h zero p = broken 7 (length h)
 tagsFrom h (suc n) p = onItem (nextItem h p) (λ q. tagsFrom h n q)
 
+-- All tags from p on.
 abbrev pub tagsAt : List ℕ → ℕ → Tags
 tagsAt h p = tagsFrom h (length h - p) p

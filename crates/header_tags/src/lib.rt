@@ -66,25 +66,14 @@ fn tag_at(h: &[u8], at: usize) -> Tag
     }
 }
 
-// Where the padding from a place on ends. A loop, so that long padding takes no stack.
-fn end_of_padding(h: &[u8], at: usize) -> usize
-    ensures { λ r. ⌜ (at ≤ r) × (nextItem (now (h .entry)) r ≡ nextItem (now (h .entry)) at) ⌝ }
-{
-    let mut p = at;
-    while p < h.len() {
-        if h[p] != PADDING {
-            return p;
-        }
-        p += 1;
-    }
-    p
-}
-
-// Goes over the padding from a place, and reads the tag after it.
+// Goes over the padding from a place, and reads the tag after it. A loop, so that long padding takes no stack.
 pub fn skip_padding(h: &[u8], at: usize) -> Tag
     ensures { λ r. ⌜ itemOf r ≡ nextItem (now (h .entry)) at ⌝ }
 {
-    let p = end_of_padding(h, at);
+    let mut p = at;
+    while p < h.len() && h[p] == PADDING {
+        p += 1;
+    }
     read_tag(h, p)
 }
 
@@ -101,30 +90,34 @@ pub fn read_tag(h: &[u8], at: usize) -> Tag
     tag_at(h, at)
 }
 
-// The tag from a place on of a lent buffer, whose first bytes are the header.
-pub fn walk_at(s: &[u8], at: usize) -> Tag
-    ensures { λ r. ⌜ itemOf r ≡ walkAt (now (s .entry)) at ⌝ }
-{
-    if s.len() < HEADER_LENGTH {
-        return Tag::TooShort;
-    }
-    read_tag(&s[..HEADER_LENGTH], at)
+// What one look gives: a tag, the end or a refusal, and where the walk goes on.
+pub struct Look {
+    pub tag: Tag,
+    pub next: usize,
 }
 
-// Where the walk goes on from a place: behind the tag found, and at the end or after a refusal at the same place.
-pub fn next_place(s: &[u8], at: usize) -> usize
-    ensures { λ r. ⌜ r ≡ placeBehind (walkAt (now (s .entry)) at) at ⌝ }
+// Looks from a place on into a lent buffer, whose first bytes are the header. The walk goes on behind the tag found; at the end or
+// after a refusal, at the same place.
+pub fn walk_on(s: &[u8], at: usize) -> Look
+    ensures { λ r. ⌜ (itemOf (r .tag) ≡ walkAt (now (s .entry)) at) × (r .next ≡ placeBehind (walkAt (now (s .entry)) at) at) ⌝ }
 {
-    let t = walk_at(s, at);
-    match t {
-        Tag::Found {
-            place,
-            kind: _,
-            length,
-        } => place + 4 + length,
-        Tag::End => at,
-        Tag::TooShort => at,
-        Tag::DoesNotFit(_) => at,
-        Tag::NoEnd(_) => at,
+    if s.len() < HEADER_LENGTH {
+        return Look {
+            tag: Tag::TooShort,
+            next: at,
+        };
+    }
+    let tag = read_tag(&s[..HEADER_LENGTH], at);
+    let Tag::Found {
+        place,
+        kind: _,
+        length,
+    } = tag
+    else {
+        return Look { tag, next: at };
+    };
+    Look {
+        tag,
+        next: place + 4 + length,
     }
 }

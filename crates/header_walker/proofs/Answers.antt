@@ -1,4 +1,4 @@
--- One answer of a walker: which it can be, where a tag lies, and what it does not depend on. Assumes nothing.
+-- One look of a walk: which answer it can give, where a tag lies, and what it does not depend on. Assumes nothing.
 use mathlib.Core.Path.{_≡_, refl, sym, ap, _∙_}
 use Prim.Native.Nat.{ℕ, zero, suc, _+_, _-_, _≤_}
 use mathlib.Core.List.{List, _++_}
@@ -8,11 +8,13 @@ use native.Mathlib.Omega.{arith}
 use lib.Dec.{ltb, eqb}
 use lib.ListN.{length, getD, take, length-take, length-append}
 use lib.Seq.{getD-append-add, take-append-add}
+use denote.Ref.{now}
 use borrow.Author.Tests.{ltb-false}
 use Rattle.numbers.specs.Answer.{Answer, gives, refused}
 use Rattle.header_tags.specs.Walk.{firstTag, typeAt, lengthAt, Item, tag, end, itemAt, itemFrom, nextItem, walkAt}
 use Rattle.header_tags.proofs.Laws.{refused-gives, next-within}
-use Rattle.header_walker.specs.Claims.{Offered, Answers, Unread, Within}
+use Rattle.header_walker.specs.Walker.{afterCalls}
+use Rattle.header_walker.specs.Claims.{Offered, OnlyOffered, TagWithin}
 
 -- ---- 16, 4 or 7
 item-offered : (h : List ℕ) (p : ℕ) → Offered (itemAt h p)
@@ -35,13 +37,16 @@ from-offered h l (suc n) p = go (from-offered h l n (p + 1)) (eqb (getD h p 0) 2
     go ih true = ih
     go ih false = item-offered h p
 
-pub answers : Answers
+answers : (s : List ℕ) (p : ℕ) → Offered (walkAt s p)
 unfolding walkAt
 answers s p = go (ltb (length s) 256) refl
   where
     go : (b : Bool) → ltb (length s) 256 ≡ b → Offered (cond b (refused 16 0) (nextItem (take 256 s) p))
     go true e = inl (refl, refl)
     go false e = from-offered (take 256 s) (omega (arith, length-take 256 s, ltb-false (length s) 256 e)) (length (take 256 s) - p) p
+
+pub only-offered : OnlyOffered
+only-offered w n = answers (now (afterCalls n w .header)) (afterCalls n w .at)
 
 -- ---- a tag lies within the header
 in-header : (s : List ℕ) (p : ℕ) {q t n : ℕ} → walkAt s p ≡ gives (tag q t n) → (p ≤ q) × (q + 4 + n ≤ length (take 256 s))
@@ -52,8 +57,11 @@ in-header s p {q} {t} {n} e = go (ltb (length s) 256) e
     go true e = refused-gives e
     go false e = next-within (take 256 s) p e
 
-pub within : Within
-within s p q t n e = let w = in-header s p e in omega (arith, length-take 256 s)
+pub within : (s : List ℕ) (p : ℕ) {q t n : ℕ} → walkAt s p ≡ gives (tag q t n) → (p ≤ q) × (q + 4 + n ≤ 256)
+within s p e = let w = in-header s p e in omega (arith, length-take 256 s)
+
+pub tag-within : TagWithin
+tag-within w n q t k e = within (now (afterCalls n w .header)) (afterCalls n w .at) e
 
 -- ---- two headers that differ before the first tag alone
 module _ (h k : List ℕ) (l : length h ≡ length k) (same : (i : ℕ) → firstTag ≤ i → getD h i 0 ≡ getD k i 0) where
@@ -84,7 +92,7 @@ module _ (a b : List ℕ) (m : length a ≡ firstTag) (n : length b ≡ firstTag
 cut : (a l : List ℕ) → length a ≡ firstTag → take 256 (a ++ l) ≡ a ++ take 248 l
 cut a l e = let x : 256 ≡ length a + 248 = omega arith in ap (λ (n : ℕ). take n (a ++ l)) x ∙ take-append-add a l 248
 
-pub unread : Unread
+pub unread-at : (a b l : List ℕ) (p : ℕ) → length a ≡ firstTag → length b ≡ firstTag → firstTag ≤ p → walkAt (a ++ l) p ≡ walkAt (b ++ l) p
 unfolding walkAt
-unread a b l p m n e =
+unread-at a b l p m n e =
     rw (as-long a b m n l, cut a l m, cut b l n, as-long a b m n (take 248 l), same-from (a ++ take 248 l) (b ++ take 248 l) (as-long a b m n (take 248 l)) (byte a b m n (take 248 l)) (length (b ++ take 248 l) - p) p e)

@@ -1,19 +1,46 @@
--- What document 01, "The header", says of the walker's answers. proofs/Answers.antt and proofs/Calls.antt prove each of these.
+-- What document 01, "The header", says of the offered walker: of the struct `TagWalker`, after any number of calls of `next` (`Walker.antt`).
+-- proofs/Answers.antt and proofs/Calls.antt prove each of these.
 use mathlib.Core.Path.{_≡_}
-use Prim.Native.Nat.{ℕ, zero, suc, _+_, _≤_}
-use mathlib.Core.List.{List, _++_}
+use Prim.Native.Nat.{ℕ, zero, suc, _+_, _<_, _≤_}
+use mathlib.Core.List.{List, _∷_, _++_}
 use mathlib.Core.Logic.{_⊎_}
-use lib.ListN.{length}
+use lib.ListN.{length, take, replicate}
+use denote.Ref.{RefT, now}
 use Rattle.numbers.specs.Answer.{Answer, gives, refused}
-use Rattle.header_tags.specs.Walk.{firstTag, Item, tag, end, walkAt, placeBehind}
+use Rattle.header_tags.specs.Walk.{firstTag, Item, tag, end, Tags, ended, broken, more, tagsAt}
+use Rattle.header_walker.specs.Walker.{startOf, walkerAnswer, afterCalls, callAnswer}
+use Rattle.header_walker.specs.declared.TagWalker.{TagWalker}
+
+-- Answer number n of a walk, counted from 0, told by its list of tags: behind the last tag stands, for ever, how the walk stops.
+abbrev pub entryAt : Tags → ℕ → Answer Item
+entryAt ended n = gives end
+entryAt (broken m q) n = refused m q
+entryAt (more q t k rest) zero = gives (tag q t k)
+entryAt (more q t k rest) (suc n) = entryAt rest n
+
+-- A new walker gives all tags of the header, one at a time and in their order, those of skipped types too, and then how the walk stops.
+-- They are the tags that the reader judges.
+abbrev pub AllTags : Type 0
+AllTags = (s : RefT (List ℕ)) (n : ℕ) → 256 ≤ length (now s) → callAnswer n (startOf s) ≡ entryAt (tagsAt (take 256 (now s)) firstTag) n
+
+-- So in a header with padding, a tag of a skipped type, padding and a version of a wrong length, both tags come, and then the end for ever.
+abbrev pub paddedHeader : List ℕ
+paddedHeader = replicate 8 0 ++ (0xFF ∷ 0xFF ∷ 0x42 ∷ 0x00 ∷ 0x01 ∷ 0x00 ∷ 0xAA ∷ 0xFF ∷ 0x01 ∷ 0x00 ∷ 0x00 ∷ 0x00 ∷ 0x00 ∷ 0x00 ∷ replicate 234 0xFF)
+
+abbrev pub GivesPadded : Type 0
+GivesPadded = (s : RefT (List ℕ)) (n : ℕ) → now s ≡ paddedHeader → callAnswer n (startOf s) ≡ entryAt (more 10 0x0042 1 (more 16 0x0001 0 ended)) n
+
+-- Over fewer than 256 bytes every call is refused with 16, at 0.
+abbrev pub TooFew : Type 0
+TooFew = (s : RefT (List ℕ)) (n : ℕ) → length (now s) < 256 → callAnswer n (startOf s) ≡ refused 16 0
 
 -- Of the refusals only three numbers come: 16, at place 0; 4; and 7, at place 256. The reader's 2, 3, 5, 6 and 8 do not.
 abbrev pub Offered : Answer Item → Type 0
 Offered (gives i) = Unit {0}
 Offered (refused m q) = ((m ≡ 16) × (q ≡ 0)) ⊎ ((m ≡ 4) ⊎ ((m ≡ 7) × (q ≡ 256)))
 
-abbrev pub Answers : Type 0
-Answers = (s : List ℕ) (p : ℕ) → Offered (walkAt s p)
+abbrev pub OnlyOffered : Type 0
+OnlyOffered = (w : TagWalker) (n : ℕ) → Offered (callAnswer n w)
 
 -- The end or a refusal: no tag.
 abbrev pub Stops : Answer Item → Type 0
@@ -21,23 +48,19 @@ Stops (gives (tag q t n)) = ⊥
 Stops (gives end) = Unit {0}
 Stops (refused m q) = Unit {0}
 
--- Where a walker over s stands n calls after it stood at p.
-abbrev pub placeAfterCalls : List ℕ → ℕ → ℕ → ℕ
-placeAfterCalls s zero p = p
-placeAfterCalls s (suc n) p = placeAfterCalls s n (placeBehind (walkAt s p) p)
-
--- Asked again after the end or a refusal, however often, the walker gives the same answer.
+-- Asked again after the end or a refusal, however often, the walker gives the same answer and stays the same walker.
 abbrev pub Repeats : Type 0
-Repeats = (s : List ℕ) (p n : ℕ) → Stops (walkAt s p) → walkAt s (placeAfterCalls s n p) ≡ walkAt s p
+Repeats = (w : TagWalker) (n : ℕ) → Stops (walkerAnswer w) → (callAnswer n w ≡ walkerAnswer w) × (afterCalls n w ≡ w)
 
--- Magic and size are not looked at: what stands before the first tag makes no difference.
+-- Magic and size are not looked at: what stands before the first tag makes no difference to a walker that stands behind it.
 abbrev pub Unread : Type 0
-Unread = (a b l : List ℕ) (p : ℕ) → length a ≡ firstTag → length b ≡ firstTag → firstTag ≤ p → walkAt (a ++ l) p ≡ walkAt (b ++ l) p
+Unread = (a b l : List ℕ) (v w : TagWalker) (n : ℕ) → length a ≡ firstTag → length b ≡ firstTag → now (v .header) ≡ a ++ l → now (w .header) ≡ b ++ l
+    → v .at ≡ w .at → firstTag ≤ v .at → callAnswer n v ≡ callAnswer n w
 
 -- A tag lies at the walker's place or behind it, and within the header's 256 bytes.
-abbrev pub Within : Type 0
-Within = (s : List ℕ) (p q t n : ℕ) → walkAt s p ≡ gives (tag q t n) → (p ≤ q) × (q + 4 + n ≤ 256)
+abbrev pub TagWithin : Type 0
+TagWithin = (w : TagWalker) (n q t k : ℕ) → callAnswer n w ≡ gives (tag q t k) → (afterCalls n w .at ≤ q) × (q + 4 + k ≤ 256)
 
--- So the walk ends: as many calls as there are bytes left are enough.
+-- So a new walker gives 62 tags at most, of four bytes each: call number 62 and each after it is the end or a refusal.
 abbrev pub Ends : Type 0
-Ends = (s : List ℕ) (p n : ℕ) → 256 ≤ p + n → Stops (walkAt s (placeAfterCalls s n p))
+Ends = (s : RefT (List ℕ)) (n : ℕ) → 62 ≤ n → Stops (callAnswer n (startOf s))

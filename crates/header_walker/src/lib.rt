@@ -1,7 +1,7 @@
 // The walk over a header's tags as a struct: it holds the lent slice and where it stands.
 ghost use mathlib.Core.Path.{_≡_};
-ghost use Rattle.header_tags.specs.Walk.{firstTag, itemOf, walkAt};
-ghost use Rattle.header_walker.specs.Walker.{startOf, answerOf, afterOf};
+ghost use Rattle.header_tags.specs.Walk.{itemOf};
+ghost use Rattle.header_walker.specs.Walker.{startOf, walkerAnswer, walkerAfter, callAnswer};
 use header_tags::Tag;
 
 // Where a walker starts.
@@ -26,19 +26,23 @@ impl<'a> TagWalker<'a> {
 
     // What the walk finds from the walker's place on. The walker moves behind a tag; at the end and after a refusal it stays.
     pub fn next(&mut self) -> Tag
-        ensures { λ r. ⌜ (itemOf r ≡ answerOf (now (self .entry))) × (now (self .exit) ≡ afterOf (now (self .entry))) ⌝ }
+        ensures { λ r. ⌜ (itemOf r ≡ walkerAnswer (now (self .entry))) × (now (self .exit) ≡ walkerAfter (now (self .entry))) ⌝ }
     {
-        let at = self.at;
-        let behind = header_tags::next_place(self.header, at);
-        self.at = behind;
-        header_tags::walk_at(self.header, at)
+        let look = header_tags::walk_on(self.header, self.at);
+        self.at = look.next;
+        look.tag
     }
 }
 
-// A header's first tag. Its parameters are plain, so that a caller's proof needs no walker.
-pub fn first(s: &[u8]) -> Tag
-    ensures { λ r. ⌜ itemOf r ≡ walkAt (now (s .entry)) firstTag ⌝ }
+// What call number n of a new walker answers, counted from 0. Its parameters are plain, so that a caller's proof needs no walker.
+pub fn nth(s: &[u8], n: usize) -> Tag
+    ensures { λ r. ⌜ itemOf r ≡ callAnswer n (startOf (s .entry)) ⌝ }
 {
     let mut w = TagWalker::new(s);
+    let mut left = n;
+    while 0 < left {
+        w.next();
+        left -= 1;
+    }
     w.next()
 }

@@ -130,9 +130,9 @@ pub extern "C" fn tainhosa_next_tag(input: &[u8], at: usize, tag: &mut [u64]) ->
     if tag.len() != TAG_NUMBERS {
         return WRONG_LENGTH;
     }
-    let t = header_tags::walk_at(input, at);
-    let next = header_tags::next_place(input, at);
-    let row = c_headers::tag_row(t, next as u64);
+    let look = header_tags::walk_on(input, at);
+    let t = look.tag;
+    let row = c_headers::tag_row(t, look.next as u64);
     c_headers::put_numbers(tag, &row);
     c_headers::of_tag(t)
 }

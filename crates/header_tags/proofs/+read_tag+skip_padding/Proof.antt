@@ -1,11 +1,12 @@
 -- `read_tag` and `skip_padding` call each other; the bytes left to the header's length fall, and a call that keeps its place goes
 -- from the skipper to the reader. Assumes nothing.
-use Prim.Native.Nat.{ℕ, _<_, _+_, _*_, _-_}
-use mathlib.Core.Path.{_≡_, _∙_}
+use Prim.Native.Nat.{ℕ, _<_, _≤_, _+_, _*_, _-_}
+use mathlib.Core.Path.{_≡_, refl, _∙_}
 use native.Mathlib.Omega.{arith}
 use lib.ListN.{length}
+use Rattle.header_tags.specs.Walk.{nextItem}
 use Rattle.header_tags.proofs.Laws.{next-none, next-padding, next-item}
-use borrow.Author.Needs.{needs}
+use borrow.Author.Tests.{eqb-true}
 use borrow.Fn.Kinds.{In}
 use borrow.Fn.PlainCycle.{Measures, is, falls, and}
 use Rattle.header_tags.proofs.read_tag.Reads as read-tag
@@ -14,7 +15,6 @@ use Rattle.header_tags.proofs.+read_tag+skip_padding.Lts-read_tag as re
 use Rattle.header_tags.proofs.skip_padding.Reads as skip-padding
 use Rattle.header_tags.proofs.skip_padding.Kinds as skip-padding-kinds
 use Rattle.header_tags.proofs.+read_tag+skip_padding.Lts-skip_padding as skip-padding-lts
-use Rattle.header_tags.proofs.end_of_padding.Reads as end-of-padding-reads
 use Rattle.header_tags.proofs.tag_at.Reads as tag-at-reads
 use Rattle.header_tags.proofs.+read_tag+skip_padding.{statement}
 use Rattle.header_tags.proofs.+read_tag+skip_padding.Tie.{close}
@@ -37,6 +37,12 @@ skip-padding-at t = and 1 skip-padding-kinds.ps (is 1 skip-padding-kinds.ps μ-s
 abbrev skip-padding-below : ℕ → In 1 skip-padding-kinds.ps
 skip-padding-below t = and 1 skip-padding-kinds.ps (falls 1 skip-padding-kinds.ps _<_ μ-skip-padding t) skip-padding.Pre
 
+abbrev Inv-loop : skip-padding-lts.InvT-loop
+Inv-loop h at p₀ p = (at ≤ p) × (nextItem h p ≡ nextItem h at)
+
+abbrev μ-loop : skip-padding-lts.MeasureT-loop
+μ-loop h at p₀ p = length h - p
+
 pub +read-tag+skip-padding-spec : {M : Type 1} → statement M
 +read-tag+skip-padding-spec =
     close
@@ -54,9 +60,17 @@ pub +read-tag+skip-padding-spec : {M : Type 1} → statement M
     (λ c κs. omega arith)
     (λ c. c .tag-at .ensures ∙ next-item _ _ (omega arith) (omega arith)))
     λ t. skip-padding-lts.spec
-    (end-of-padding-reads.Asked, end-of-padding-reads.Learnt, read-tag-below t, read-tag.Post)
+    (read-tag-below t, read-tag.Post)
     (skip-padding-at t)
     skip-padding.Post
-    (λ c κs. search needs)
-    (λ c κs. let p = c .end-of-padding .ensures .0 in omega arith)
-    (λ c. c .read-tag .ensures ∙ c .before .end-of-padding .ensures .1)
+    Inv-loop
+    μ-loop
+    (λ c. (omega arith, refl))
+    (λ c. omega arith)
+    (λ c. omega arith)
+    (λ c. omega arith)
+    (λ c.
+    let c3 = c .before .before .before in
+    (omega arith, next-padding (c3 .before .before .args .h .now) (c3 .loop .p) (omega arith) (eqb-true _ _ (c .if1 .taken)) ∙ c3 .loop .inv .1))
+    (λ c κs. omega arith)
+    (λ c. c .read-tag .ensures ∙ c .before .before .loop .inv .1)

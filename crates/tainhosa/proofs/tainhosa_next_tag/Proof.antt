@@ -1,4 +1,4 @@
-use borrow.Author.Tests.{eq-eqb, ne-eqb}
+use borrow.Author.Tests.{ne-eqb}
 use lib.ListN.{length}
 use Rattle.tainhosa.proofs.Answers.{walked-on}
 use mathlib.Core.Path.{_∙_}
@@ -17,17 +17,15 @@ returns-2 c =
     let c6 = c3 .before .before .before in
     let c7 = c6 .before in
     let c8 = c7 .before in
-    let c9 = c8 .before in
-    let c12 = c9 .before .before .before in
-    let a = c12 .args in
-    walked-on (a .input .now) (a .at) (a .tag .now) _ _ (c .of-tag .result) _ (c9 .if1 .left) (c8 .walk-at .ensures) (c7 .next-place .ensures) (c3 .put-numbers .ensures ∙ c6 .tag-row .ensures) (c .of-tag .ensures)
+    let c11 = c8 .before .before .before in
+    let a = c11 .args in
+    walked-on (a .input .now) (a .at) (a .tag .now) _ _ (c .of-tag .result) _ (c8 .if1 .left) (c7 .walk-on .ensures .0) (c7 .walk-on .ensures .1) (c3 .put-numbers .ensures ∙ c6 .tag-row .ensures) (c .of-tag .ensures)
 
 pub tainhosa-next-tag-spec : {M : Type 1} → statement M
 tainhosa-next-tag-spec =
     tie.close
     (tie.spec
     returns
-    (λ c κs. search needs)
     (λ c κs. search needs)
     (λ c κs. search needs)
     (λ c. search needs)
