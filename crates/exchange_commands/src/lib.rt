@@ -7,14 +7,14 @@ use flash_status::BootStatus;
 use flash_status::Statuses;
 use flash_status::UpdateStatus;
 ghost use mathlib.Core.Path.{_≡_};
+ghost use Rattle.numbers.specs.Answer.{gives};
 ghost use Rattle.flash.specs.Sizes.{geometry};
 ghost use Rattle.flash.specs.Sectors.{Partition};
 ghost use Rattle.flash.specs.Buffers.{flash, Shaped};
-ghost use Rattle.flash_status.specs.StatusBytes.{bootStatusAt, updateStatusAt};
 ghost use Rattle.flash_flags.specs.SectorFlags.{flagsAt};
-ghost use Rattle.exchange.specs.Commands.{command, withStatuses, mayArm, armOperations, arm, confirmFlags, mayConfirm, confirmOperations, confirm};
+ghost use Rattle.exchange.specs.Commands.{command, mayArm, confirmFlags, mayConfirm, armCommand, confirmCommand};
 ghost use Rattle.exchange_commands.specs.Numbers.{commanded};
-ghost use Rattle.exchange_commands.specs.Inner.{permitOf};
+ghost use Rattle.exchange_commands.specs.Inner.{permitOf, mayDo, permitAt, commandOperations, commandOn};
 
 // Why arm or confirm is refused.
 pub enum CommandRefusal {
@@ -28,6 +28,14 @@ pub enum CommandRefusal {
 pub enum CommandAnswer {
     Done(u64),
     Refused(CommandRefusal),
+}
+
+// ---- the commands
+
+// What can be commanded. The functions below say of each its checks and its operations.
+enum CommandKind {
+    Arm,
+    Confirm,
 }
 
 // ---- the checks before the operations
@@ -49,16 +57,6 @@ fn permit_arm(b: BootStatus, u: UpdateStatus) -> Permit
             BootStatus::Success => Permit::Granted,
         },
         UpdateStatus::Updating => Permit::Denied(CommandRefusal::WrongTime),
-    }
-}
-
-fn decide_arm(g: Geometry, boot: &[u8], update: &[u8]) -> Permit
-    requires { ⌜ (Partition g (now boot)) × (Partition g (now update)) ⌝ }
-    ensures { λ r. ⌜ permitOf r ≡ withStatuses (bootStatusAt g (now (boot .entry))) (updateStatusAt g (now (update .entry))) mayArm ⌝ }
-{
-    match flash_status::read_statuses(g, boot, update) {
-        Statuses::Allowed(b, u) => permit_arm(b, u),
-        Statuses::NotAllowed => Permit::Denied(CommandRefusal::StatusNotAllowed),
     }
 }
 
@@ -90,30 +88,49 @@ fn permit_confirm(g: Geometry, b: BootStatus, u: UpdateStatus, update: &[u8]) ->
     }
 }
 
-fn decide_confirm(g: Geometry, boot: &[u8], update: &[u8]) -> Permit
+// What a command wants, by the statuses and the flags.
+fn permit_by(
+    kind: CommandKind,
+    g: Geometry,
+    b: BootStatus,
+    u: UpdateStatus,
+    update: &[u8],
+) -> Permit
+    requires { ⌜ Partition g (now update) ⌝ }
+    ensures { λ r. ⌜ permitOf r ≡ mayDo kind (flagsAt g (now (update .entry))) b u ⌝ }
+{
+    match kind {
+        CommandKind::Arm => permit_arm(b, u),
+        CommandKind::Confirm => permit_confirm(g, b, u, update),
+    }
+}
+
+// The checks of a command that come after the lengths.
+fn decide(kind: CommandKind, g: Geometry, boot: &[u8], update: &[u8]) -> Permit
     requires { ⌜ (Partition g (now boot)) × (Partition g (now update)) ⌝ }
-    ensures { λ r. ⌜ permitOf r ≡ withStatuses (bootStatusAt g (now (boot .entry))) (updateStatusAt g (now (update .entry))) (mayConfirm (flagsAt g (now (update .entry)))) ⌝ }
+    ensures { λ r. ⌜ permitOf r ≡ permitAt kind g (now (boot .entry)) (now (update .entry)) ⌝ }
 {
     match flash_status::read_statuses(g, boot, update) {
-        Statuses::Allowed(b, u) => permit_confirm(g, b, u, update),
+        Statuses::Allowed(b, u) => permit_by(kind, g, b, u, update),
         Statuses::NotAllowed => Permit::Denied(CommandRefusal::StatusNotAllowed),
     }
 }
 
 // ---- the operations
 
-fn arm_if(
+// All operations of a command.
+fn do_operations(
+    kind: CommandKind,
     g: Geometry,
-    permit: Permit,
     boot: &mut [u8],
     update: &mut [u8],
     swap: &mut [u8],
 ) -> CommandAnswer
     requires { ⌜ Shaped g (flash (now boot) (now update) (now swap)) ⌝ }
-    ensures { λ r. ⌜ commanded r (flash (now (boot .exit)) (now (update .exit)) (now (swap .exit))) ≡ command g armOperations (permitOf permit) (flash (now (boot .entry)) (now (update .entry)) (now (swap .entry))) ⌝ }
+    ensures { λ r. ⌜ commanded r (flash (now (boot .exit)) (now (update .exit)) (now (swap .exit))) ≡ command g (commandOperations kind) (gives tt) (flash (now (boot .entry)) (now (update .entry)) (now (swap .entry))) ⌝ }
 {
-    match permit {
-        Permit::Granted => {
+    match kind {
+        CommandKind::Arm => {
             exchange_steps::do_operation(g, Operation::EraseUpdateTrailer, boot, update, swap);
             exchange_steps::do_operation(
                 g,
@@ -124,22 +141,7 @@ fn arm_if(
             );
             CommandAnswer::Done(2)
         }
-        Permit::Denied(refusal) => CommandAnswer::Refused(refusal),
-    }
-}
-
-fn confirm_if(
-    g: Geometry,
-    permit: Permit,
-    boot: &mut [u8],
-    update: &mut [u8],
-    swap: &mut [u8],
-) -> CommandAnswer
-    requires { ⌜ Shaped g (flash (now boot) (now update) (now swap)) ⌝ }
-    ensures { λ r. ⌜ commanded r (flash (now (boot .exit)) (now (update .exit)) (now (swap .exit))) ≡ command g confirmOperations (permitOf permit) (flash (now (boot .entry)) (now (update .entry)) (now (swap .entry))) ⌝ }
-{
-    match permit {
-        Permit::Granted => {
+        CommandKind::Confirm => {
             exchange_steps::do_operation(
                 g,
                 Operation::WriteBootStatus(BootStatus::Success),
@@ -149,6 +151,22 @@ fn confirm_if(
             );
             CommandAnswer::Done(1)
         }
+    }
+}
+
+// A command on buffers of the right lengths: where its checks grant it, its operations.
+fn obey(
+    kind: CommandKind,
+    g: Geometry,
+    boot: &mut [u8],
+    update: &mut [u8],
+    swap: &mut [u8],
+) -> CommandAnswer
+    requires { ⌜ Shaped g (flash (now boot) (now update) (now swap)) ⌝ }
+    ensures { λ r. ⌜ commanded r (flash (now (boot .exit)) (now (update .exit)) (now (swap .exit))) ≡ commandOn kind g (flash (now (boot .entry)) (now (update .entry)) (now (swap .entry))) ⌝ }
+{
+    match decide(kind, g, boot, update) {
+        Permit::Granted => do_operations(kind, g, boot, update, swap),
         Permit::Denied(refusal) => CommandAnswer::Refused(refusal),
     }
 }
@@ -161,13 +179,10 @@ pub fn arm(
     update: &mut [u8],
     swap: &mut [u8],
 ) -> CommandAnswer
-    ensures { λ r. ⌜ commanded r (flash (now (boot .exit)) (now (update .exit)) (now (swap .exit))) ≡ arm (geometry sectors size) (flash (now (boot .entry)) (now (update .entry)) (now (swap .entry))) ⌝ }
+    ensures { λ r. ⌜ commanded r (flash (now (boot .exit)) (now (update .exit)) (now (swap .exit))) ≡ armCommand (geometry sectors size) (flash (now (boot .entry)) (now (update .entry)) (now (swap .entry))) ⌝ }
 {
     match flash::check_flash(sectors, size, boot, update, swap) {
-        GeometryAnswer::Fits(g) => {
-            let permit = decide_arm(g, boot, update);
-            arm_if(g, permit, boot, update, swap)
-        }
+        GeometryAnswer::Fits(g) => obey(CommandKind::Arm, g, boot, update, swap),
         GeometryAnswer::Outside => CommandAnswer::Refused(CommandRefusal::OutsideRules),
     }
 }
@@ -180,13 +195,10 @@ pub fn confirm(
     update: &mut [u8],
     swap: &mut [u8],
 ) -> CommandAnswer
-    ensures { λ r. ⌜ commanded r (flash (now (boot .exit)) (now (update .exit)) (now (swap .exit))) ≡ confirm (geometry sectors size) (flash (now (boot .entry)) (now (update .entry)) (now (swap .entry))) ⌝ }
+    ensures { λ r. ⌜ commanded r (flash (now (boot .exit)) (now (update .exit)) (now (swap .exit))) ≡ confirmCommand (geometry sectors size) (flash (now (boot .entry)) (now (update .entry)) (now (swap .entry))) ⌝ }
 {
     match flash::check_flash(sectors, size, boot, update, swap) {
-        GeometryAnswer::Fits(g) => {
-            let permit = decide_confirm(g, boot, update);
-            confirm_if(g, permit, boot, update, swap)
-        }
+        GeometryAnswer::Fits(g) => obey(CommandKind::Confirm, g, boot, update, swap),
         GeometryAnswer::Outside => CommandAnswer::Refused(CommandRefusal::OutsideRules),
     }
 }
