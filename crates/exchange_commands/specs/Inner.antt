@@ -3,7 +3,7 @@ use mathlib.Core.List.{List}
 use Prim.Native.Nat.{ℕ}
 use Rattle.numbers.specs.Answer.{Answer, gives, refused}
 use Rattle.flash.specs.declared.Geometry.{Geometry}
-use Rattle.flash.specs.Buffers.{Flash}
+use Rattle.flash.specs.Buffers.{Flash, Shaped}
 use Rattle.flash_status.specs.declared.BootStatus.{BootStatus}
 use Rattle.flash_status.specs.declared.UpdateStatus.{UpdateStatus}
 use Rattle.flash_status.specs.StatusBytes.{bootStatusAt, updateStatusAt}
@@ -31,9 +31,15 @@ abbrev pub commandOperations : CommandKind → List Operation
 commandOperations Arm = armOperations
 commandOperations Confirm = confirmOperations
 
--- a command on buffers of the right lengths: its checks, and the whole of it
+-- the checks of a command on buffers of the right lengths
 abbrev pub permitAt : CommandKind → Geometry → List ℕ → List ℕ → Answer (Unit {0})
 permitAt k g boot update = withStatuses (bootStatusAt g boot) (updateStatusAt g update) (mayDo k (flagsAt g update))
 
-abbrev pub commandOn : CommandKind → Geometry → Flash → Command
-commandOn k g f = command g (commandOperations k) (permitAt k g (f .boot) (f .update)) f
+-- by what the check of geometry and lengths gave: what is known of the flash, and the rest of a command
+abbrev pub ShapedWhere : Answer Geometry → Flash → Type 0
+ShapedWhere (gives g) f = Shaped g f
+ShapedWhere (refused n p) f = Unit {0}
+
+abbrev pub commandAfter : CommandKind → Answer Geometry → Flash → Command
+commandAfter k (gives g) f = command g (commandOperations k) (permitAt k g (f .boot) (f .update)) f
+commandAfter k (refused n p) f = record { answer = refused n p; flash = f }

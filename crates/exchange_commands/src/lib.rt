@@ -8,13 +8,13 @@ use flash_status::Statuses;
 use flash_status::UpdateStatus;
 ghost use mathlib.Core.Path.{_≡_};
 ghost use Rattle.numbers.specs.Answer.{gives};
-ghost use Rattle.flash.specs.Sizes.{geometry};
+ghost use Rattle.flash.specs.Sizes.{geometry, geometryAnswer};
 ghost use Rattle.flash.specs.Sectors.{Partition};
 ghost use Rattle.flash.specs.Buffers.{flash, Shaped};
 ghost use Rattle.flash_flags.specs.SectorFlags.{flagsAt};
 ghost use Rattle.exchange.specs.Commands.{command, mayArm, confirmFlags, mayConfirm, armCommand, confirmCommand};
 ghost use Rattle.exchange_commands.specs.Numbers.{commanded};
-ghost use Rattle.exchange_commands.specs.Inner.{permitOf, mayDo, permitAt, commandOperations, commandOn};
+ghost use Rattle.exchange_commands.specs.Inner.{permitOf, mayDo, permitAt, commandOperations, ShapedWhere, commandAfter};
 
 // Why arm or confirm is refused.
 pub enum CommandRefusal {
@@ -154,20 +154,23 @@ fn do_operations(
     }
 }
 
-// A command on buffers of the right lengths: where its checks grant it, its operations.
+// A command, after the check of geometry and lengths: where its own checks grant it, its operations.
 fn obey(
     kind: CommandKind,
-    g: Geometry,
+    fit: GeometryAnswer,
     boot: &mut [u8],
     update: &mut [u8],
     swap: &mut [u8],
 ) -> CommandAnswer
-    requires { ⌜ Shaped g (flash (now boot) (now update) (now swap)) ⌝ }
-    ensures { λ r. ⌜ commanded r (flash (now (boot .exit)) (now (update .exit)) (now (swap .exit))) ≡ commandOn kind g (flash (now (boot .entry)) (now (update .entry)) (now (swap .entry))) ⌝ }
+    requires { ⌜ ShapedWhere (geometryAnswer fit) (flash (now boot) (now update) (now swap)) ⌝ }
+    ensures { λ r. ⌜ commanded r (flash (now (boot .exit)) (now (update .exit)) (now (swap .exit))) ≡ commandAfter kind (geometryAnswer fit) (flash (now (boot .entry)) (now (update .entry)) (now (swap .entry))) ⌝ }
 {
-    match decide(kind, g, boot, update) {
-        Permit::Granted => do_operations(kind, g, boot, update, swap),
-        Permit::Denied(refusal) => CommandAnswer::Refused(refusal),
+    match fit {
+        GeometryAnswer::Fits(g) => match decide(kind, g, boot, update) {
+            Permit::Granted => do_operations(kind, g, boot, update, swap),
+            Permit::Denied(refusal) => CommandAnswer::Refused(refusal),
+        },
+        GeometryAnswer::Outside => CommandAnswer::Refused(CommandRefusal::OutsideRules),
     }
 }
 
@@ -181,10 +184,8 @@ pub fn arm(
 ) -> CommandAnswer
     ensures { λ r. ⌜ commanded r (flash (now (boot .exit)) (now (update .exit)) (now (swap .exit))) ≡ armCommand (geometry sectors size) (flash (now (boot .entry)) (now (update .entry)) (now (swap .entry))) ⌝ }
 {
-    match flash::check_flash(sectors, size, boot, update, swap) {
-        GeometryAnswer::Fits(g) => obey(CommandKind::Arm, g, boot, update, swap),
-        GeometryAnswer::Outside => CommandAnswer::Refused(CommandRefusal::OutsideRules),
-    }
+    let fit = flash::check_flash(sectors, size, boot, update, swap);
+    obey(CommandKind::Arm, fit, boot, update, swap)
 }
 
 // Keeps the image that runs on test. Any numbers, lengths and bytes are taken.
@@ -197,8 +198,6 @@ pub fn confirm(
 ) -> CommandAnswer
     ensures { λ r. ⌜ commanded r (flash (now (boot .exit)) (now (update .exit)) (now (swap .exit))) ≡ confirmCommand (geometry sectors size) (flash (now (boot .entry)) (now (update .entry)) (now (swap .entry))) ⌝ }
 {
-    match flash::check_flash(sectors, size, boot, update, swap) {
-        GeometryAnswer::Fits(g) => obey(CommandKind::Confirm, g, boot, update, swap),
-        GeometryAnswer::Outside => CommandAnswer::Refused(CommandRefusal::OutsideRules),
-    }
+    let fit = flash::check_flash(sectors, size, boot, update, swap);
+    obey(CommandKind::Confirm, fit, boot, update, swap)
 }
