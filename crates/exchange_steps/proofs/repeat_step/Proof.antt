@@ -35,13 +35,14 @@ phase-after-requires c κs = tt
 add-count : tie.Need-add-count Inv-loop μ-loop
 add-count c =
     let c14 = c .before .before .before .before .before .before .before .before .before .before .before .before .before .before in
-    let c19 = c14 .before .before .before .before .before in
-    omega (arith, c14 .loop-test .taken, c19 .fits .budget)
+    let c15 = c14 .before in
+    let c19 = c15 .before .before .before .before in
+    omega (arith, c14 .loop-test .taken, c15 .loop .inv .0, c19 .fits .budget)
 
 loop-less : tie.Need-loop-less Inv-loop μ-loop
 loop-less c =
     let c14 = c .before .before .before .before .before .before .before .before .before .before .before .before .before .before in
-    omega (arith, c14 .loop-test .taken)
+    omega (arith, c14 .loop-test .taken, c14 .before .loop .inv .0)
 
 loop-again : tie.Need-loop-again Inv-loop μ-loop
 loop-again c =
