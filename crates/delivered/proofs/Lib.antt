@@ -1,3 +1,4 @@
 -- The proofs of the statements of specs/.
 pub mod Delivered
+pub mod PastFinish
 pub mod Started

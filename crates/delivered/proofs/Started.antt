@@ -1,5 +1,6 @@
 -- The two starts of specs/Witness.antt, computed. Assumes nothing.
 use mathlib.Core.Path.{refl}
+use native.Mathlib.Omega.{arith}
 use Rattle.flash.specs.Sizes.{firmware, withinLimits}
 use Rattle.flash.specs.Buffers.{partitionFits, fits}
 use Rattle.flash_status.specs.StatusBytes.{statusByte, bootStatusOf, updateStatusOf}
@@ -17,14 +18,31 @@ use Rattle.exchange.specs.Cases.{three}
 use Rattle.exchange.proofs.Reached.{finish-reached}
 use Rattle.image.specs.Verdict.{checkOf}
 use Rattle.delivered.specs.Witness.{imagePartition, armed, onTest, Witness, Witnesses}
+use Rattle.delivered.specs.PastFinish.{PastFinishMet}
 use Rattle.delivered.proofs.Delivered.{reads-firmware}
 
-armed-starts : Starts checkOf update three armed
+armed-is : Starts checkOf update three armed × PastFinishMet
 unfolding
     armed imagePartition headerBytes fieldBytes sha256 bytes hash compress nextHash rounds round schedule nextWord H0 words word block pad padding zeros K σ₁ σ₀ Σ₁ Σ₀ Maj Ch bigEndian first
     decide fits partitionFits withinLimits statusByte bootStatusOf updateStatusOf flagsAt flagsShown pastZeros allF flags flagsFrom flagAt half flagByte flagOf firmware
     checkOf imageIn same tagPlaces placesIn judge rowOf tagsFrom itemFrom itemAt
-armed-starts = record { decided = refl; flagsF = refl }
+armed-is = (
+  record { decided = refl; flagsF = refl },
+  record {
+    fit = refl;
+    bootIs = refl;
+    updateIs = refl;
+    flagsF = refl;
+    newVersion = 8;
+    oldVersion = 7;
+    updateGood = refl;
+    bootGood = refl;
+    newer = omega arith;
+  },
+)
+
+pub past-finish-met : PastFinishMet
+past-finish-met = armed-is .1
 
 on-test-starts : Starts checkOf fallback three onTest
 unfolding
@@ -39,8 +57,8 @@ witnesses =
     record {
       ofUpdate =
           record {
-            starts = armed-starts;
-            finishes = λ t len budget le. finish-reached checkOf update three armed (reads-firmware three) armed-starts t len budget le;
+            starts = armed-is .0;
+            finishes = λ t len budget le. finish-reached checkOf update three armed (reads-firmware three) (armed-is .0) t len budget le;
           };
       ofFallback =
           record {

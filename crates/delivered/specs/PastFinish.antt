@@ -6,6 +6,7 @@ use Rattle.flash.specs.Buffers.{Flash}
 use Rattle.exchange.specs.Demand.{update, untorn, Event, completed, earlyEnds, most}
 use Rattle.exchange.specs.Cases.{three, UpdateReady}
 use Rattle.image.specs.Verdict.{checkOf}
+use Rattle.delivered.specs.Witness.{armed}
 
 -- An update that comes to its finish, and a power-up more.
 abbrev pub onceMore : List Event
@@ -13,3 +14,7 @@ onceMore = untorn three 21 ∷ untorn three 100 ∷ []
 
 abbrev pub PastFinish : Type 0
 PastFinish = (f : Flash) → UpdateReady checkOf f → most update 2 + 2 * earlyEnds checkOf f onceMore < completed checkOf f onceMore
+
+-- There is such an update: version 8 over version 7.
+abbrev pub PastFinishMet : Type 0
+PastFinishMet = UpdateReady checkOf armed
