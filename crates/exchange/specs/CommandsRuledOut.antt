@@ -76,29 +76,37 @@ pub record CommandsRuledOut : Type 0 where
   pub armReads : (g : Geometry) (f : Flash) (b : BootStatus) (u : UpdateStatus) (v : Flags) → Reads g f b u v → TimeToArm b u
       → Reads g ((armCommand g f) .flash) b Updating AllF
   -- confirm is done exactly at its time with all flags F; then SUCCESS is written in BOOT, and nothing else
-  pub confirmDone : (g : Geometry) (f : Flash) → Reads g f Testing UpdateNew AllF → confirmCommand g f ≡ doneWith 1 (perform g (WriteBootStatus Success) f)
+  pub confirmDone : (g : Geometry) (f : Flash) → Reads g f Testing UpdateNew AllF
+      → confirmCommand g f ≡ doneWith 1 (perform g (WriteBootStatus Success) f)
   pub confirmOnlyThen : (g : Geometry) (f : Flash) (n : ℕ) → (confirmCommand g f) .answer ≡ gives n → Reads g f Testing UpdateNew AllF
   -- at its time flags that are not well formed are 11, and flags that show an exchange under way are 14
   pub confirmMalformed : (g : Geometry) (f : Flash) → Reads g f Testing UpdateNew Malformed → confirmCommand g f ≡ refusedWith 11 f
   pub confirmUnderWay : (g : Geometry) (f : Flash) (v : Flags) → Reads g f Testing UpdateNew v → v ≢ Malformed → v ≢ AllF
       → confirmCommand g f ≡ refusedWith 14 f
   -- with other statuses it is 14, whatever the flags
-  pub confirmWrongTime : (g : Geometry) (f : Flash) (b : BootStatus) (u : UpdateStatus) (v : Flags) → Reads g f b u v → ¬ TimeToConfirm b u
+  pub confirmWrongTime : (g : Geometry) (f : Flash) (b : BootStatus) (u : UpdateStatus) (v : Flags) → Reads g f b u v
+      → ¬ TimeToConfirm b u
       → confirmCommand g f ≡ refusedWith 14 f
   -- after confirm BOOT is SUCCESS, and UPDATE is NEW with all flags F as it was
-  pub confirmReads : (g : Geometry) (f : Flash) → Reads g f Testing UpdateNew AllF → Reads g ((confirmCommand g f) .flash) Success UpdateNew AllF
+  pub confirmReads : (g : Geometry) (f : Flash) → Reads g f Testing UpdateNew AllF
+      → Reads g ((confirmCommand g f) .flash) Success UpdateNew AllF
   -- a geometry or a length outside the rules is 1, whatever the bytes
   pub armOutside : (g : Geometry) (f : Flash) → fits g f ≡ false → armCommand g f ≡ refusedWith 1 f
   pub confirmOutside : (g : Geometry) (f : Flash) → fits g f ≡ false → confirmCommand g f ≡ refusedWith 1 f
   -- within them a status byte that is not allowed is 10, BOOT's or UPDATE's, whatever the other and the flags
-  pub armBoot : (g : Geometry) (f : Flash) (n p : ℕ) → fits g f ≡ true → bootStatusAt g (f .boot) ≡ refused n p → armCommand g f ≡ refusedWith 10 f
-  pub armUpdate : (g : Geometry) (f : Flash) (n p : ℕ) → fits g f ≡ true → updateStatusAt g (f .update) ≡ refused n p → armCommand g f ≡ refusedWith 10 f
-  pub confirmBoot : (g : Geometry) (f : Flash) (n p : ℕ) → fits g f ≡ true → bootStatusAt g (f .boot) ≡ refused n p → confirmCommand g f ≡ refusedWith 10 f
+  pub armBoot : (g : Geometry) (f : Flash) (n p : ℕ) → fits g f ≡ true → bootStatusAt g (f .boot) ≡ refused n p
+      → armCommand g f ≡ refusedWith 10 f
+  pub armUpdate : (g : Geometry) (f : Flash) (n p : ℕ) → fits g f ≡ true → updateStatusAt g (f .update) ≡ refused n p
+      → armCommand g f ≡ refusedWith 10 f
+  pub confirmBoot : (g : Geometry) (f : Flash) (n p : ℕ) → fits g f ≡ true → bootStatusAt g (f .boot) ≡ refused n p
+      → confirmCommand g f ≡ refusedWith 10 f
   pub confirmUpdate : (g : Geometry) (f : Flash) (n p : ℕ) → fits g f ≡ true → updateStatusAt g (f .update) ≡ refused n p
       → confirmCommand g f ≡ refusedWith 10 f
   -- no refusal has another number or place, and none changes a byte
-  pub armRefused : (g : Geometry) (f : Flash) (n p : ℕ) → (armCommand g f) .answer ≡ refused n p → RefusedAs ArmNumber n p f (armCommand g f)
-  pub confirmRefused : (g : Geometry) (f : Flash) (n p : ℕ) → (confirmCommand g f) .answer ≡ refused n p → RefusedAs ConfirmNumber n p f (confirmCommand g f)
+  pub armRefused : (g : Geometry) (f : Flash) (n p : ℕ) → (armCommand g f) .answer ≡ refused n p
+      → RefusedAs ArmNumber n p f (armCommand g f)
+  pub confirmRefused : (g : Geometry) (f : Flash) (n p : ℕ) → (confirmCommand g f) .answer ≡ refused n p
+      → RefusedAs ConfirmNumber n p f (confirmCommand g f)
 
 -- ---- the laws speak of something, with three sectors of 256
 

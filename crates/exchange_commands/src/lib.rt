@@ -127,7 +127,8 @@ fn do_operations(
     swap: &mut [u8],
 ) -> CommandAnswer
     requires { ⌜ Shaped g (flash (now boot) (now update) (now swap)) ⌝ }
-    ensures { λ r. ⌜ commanded r (flash (now (boot .exit)) (now (update .exit)) (now (swap .exit))) ≡ command g (commandOperations kind) (gives tt) (flash (now (boot .entry)) (now (update .entry)) (now (swap .entry))) ⌝ }
+    ensures { λ r. ⌜ commanded r (flash (now (boot .exit)) (now (update .exit)) (now (swap .exit)))
+        ≡ command g (commandOperations kind) (gives tt) (flash (now (boot .entry)) (now (update .entry)) (now (swap .entry))) ⌝ }
 {
     match kind {
         CommandKind::Arm => {
@@ -163,7 +164,8 @@ fn obey(
     swap: &mut [u8],
 ) -> CommandAnswer
     requires { ⌜ ShapedWhere (geometryAnswer fit) (flash (now boot) (now update) (now swap)) ⌝ }
-    ensures { λ r. ⌜ commanded r (flash (now (boot .exit)) (now (update .exit)) (now (swap .exit))) ≡ commandAfter kind (geometryAnswer fit) (flash (now (boot .entry)) (now (update .entry)) (now (swap .entry))) ⌝ }
+    ensures { λ r. ⌜ commanded r (flash (now (boot .exit)) (now (update .exit)) (now (swap .exit)))
+        ≡ commandAfter kind (geometryAnswer fit) (flash (now (boot .entry)) (now (update .entry)) (now (swap .entry))) ⌝ }
 {
     match fit {
         GeometryAnswer::Fits(g) => match decide(kind, g, boot, update) {
@@ -182,7 +184,8 @@ pub fn arm(
     update: &mut [u8],
     swap: &mut [u8],
 ) -> CommandAnswer
-    ensures { λ r. ⌜ commanded r (flash (now (boot .exit)) (now (update .exit)) (now (swap .exit))) ≡ armCommand (geometry sectors size) (flash (now (boot .entry)) (now (update .entry)) (now (swap .entry))) ⌝ }
+    ensures { λ r. ⌜ commanded r (flash (now (boot .exit)) (now (update .exit)) (now (swap .exit)))
+        ≡ armCommand (geometry sectors size) (flash (now (boot .entry)) (now (update .entry)) (now (swap .entry))) ⌝ }
 {
     let fit = flash::check_flash(sectors, size, boot, update, swap);
     obey(CommandKind::Arm, fit, boot, update, swap)
@@ -196,7 +199,8 @@ pub fn confirm(
     update: &mut [u8],
     swap: &mut [u8],
 ) -> CommandAnswer
-    ensures { λ r. ⌜ commanded r (flash (now (boot .exit)) (now (update .exit)) (now (swap .exit))) ≡ confirmCommand (geometry sectors size) (flash (now (boot .entry)) (now (update .entry)) (now (swap .entry))) ⌝ }
+    ensures { λ r. ⌜ commanded r (flash (now (boot .exit)) (now (update .exit)) (now (swap .exit)))
+        ≡ confirmCommand (geometry sectors size) (flash (now (boot .entry)) (now (update .entry)) (now (swap .entry))) ⌝ }
 {
     let fit = flash::check_flash(sectors, size, boot, update, swap);
     obey(CommandKind::Confirm, fit, boot, update, swap)

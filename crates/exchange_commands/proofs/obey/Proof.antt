@@ -1,4 +1,4 @@
-use mathlib.Core.Path.{_∙_}
+use mathlib.Core.Path.{refl, _∙_}
 use Rattle.flash.specs.Buffers.{flash}
 use Rattle.flash.proofs.Checked.{boot-partition, update-partition}
 use Rattle.exchange_commands.proofs.Calls.{permitted}
@@ -39,7 +39,7 @@ returns-2 c =
     (permitted (a .kind) _ (flash (a .boot .now) (a .update .now) (a .swap .now)) _ _ (c3 .decide .ensures) (c .before .refusal .given .1))
 
 returns-3 : tie.Need-returns-3
-returns-3 c = rw (c .enum-told2 .given .1)
+returns-3 c = rw (c .enum-told2 .given .1) refl
 
 pub obey-spec : {M : Type 1} → statement M
 obey-spec =
