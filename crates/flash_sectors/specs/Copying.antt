@@ -16,7 +16,8 @@ pub record Copy : Type 0 where
 -- a copy puts the source's bytes in place of the target's; lengths that differ are refusal 1, and leave the target alone
 unfoldable pub copyOf : List ℕ → List ℕ → Copy
 copyOf target source =
-    cond (eqb (length target) (length source)) (record { answer = gives tt; bytes = source }) (record { answer = refused 1 0; bytes = target })
+    cond (eqb (length target) (length source)) (record { answer = gives tt; bytes = source })
+    (record { answer = refused 1 0; bytes = target })
 
 -- what each case of the code's answer says, for the contracts; and beside it the target's bytes
 abbrev pub copyAnswer : CopyAnswer → Answer (Unit {0})
