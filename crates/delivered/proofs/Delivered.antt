@@ -26,21 +26,21 @@ pub reads-firmware : (g : Geometry) → ReadsFirmware checkOf g
 reads-firmware g l l′ e e′ same = check-reads-firmware g l l′ same
 
 -- a power-up of the calls, as the rules have it
-pub ruled : CallEvent → Event
+abbrev pub ruled : CallEvent → Event
 ruled (keptPower n s budget whole) = untorn (geometry n s) budget
 ruled (cutOff n s budget whole k part t) = lost (geometry n s) budget k t
 
 -- what the calls gave is what the rules have
-as-ruled : (x : Exchange) (g : Geometry) (f : Flash) (e : CallEvent) → (¬ Finished x g f) × Happens g f e
+pub as-ruled : (x : Exchange) (g : Geometry) (f : Flash) (e : CallEvent) → (¬ Finished x g f) × Happens g f e
     → (seen f e ≡ left checkOf f (ruled e)) × ((¬ Finished x g f) × EndsAsAllowed checkOf g f (ruled e))
-unfolding left ruled
+unfolding left
 as-ruled x g f (keptPower n s budget whole) h = (ap (leftUntorn (geometry n s) budget) (h .1), (h .0, tt))
 as-ruled x g f (cutOff n s budget whole k part t) h = (
   ap (λ (a : PowerUp). leftLost k (tearNext (geometry n s) t (nextAfter checkOf (geometry n s) f k) (a .flash))) (h .1 .1),
   (h .0, (subst (λ (a : PowerUp). k ≤ a .count) (h .1 .0) (h .1 .2), h .1 .3)),
 )
 
-abbrev at : Left → Flash
+abbrev pub at : Left → Flash
 at l = l .flash
 
 pub demand-3-ongoing-delivered : Demand3Ongoing

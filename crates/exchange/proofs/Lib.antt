@@ -15,7 +15,8 @@ pub mod Decided
 pub mod Played
 pub mod Whole
 pub mod Reached
--- the marked cases 1 to 6; what the rules rule out; arm and confirm without power
+-- the marked cases 1 to 6; what the rules rule out; arm and confirm without power, and what their rules rule out
 pub mod Cases
 pub mod RuledOut
 pub mod Commands
+pub mod CommandsRuledOut

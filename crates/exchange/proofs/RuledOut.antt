@@ -6,7 +6,7 @@ use mathlib.Core.List.{List, [], _∷_}
 use Prim.Native.Nat.{ℕ, zero, suc, _≤_}
 use native.Mathlib.Omega.{arith}
 use lib.ListN.{length, take}
-use lib.Dec.{ltb, eqb}
+use lib.Dec.{ltb}
 use Rattle.numbers.specs.Answer.{Answer, gives, refused, Refusal, numbered, inside, numberOf, Reason, noReason, because}
 use Rattle.flash.specs.declared.Geometry.{Geometry}
 use Rattle.flash.specs.declared.SectorNumber.{SectorNumber}
@@ -14,17 +14,13 @@ use Rattle.flash.specs.Sectors.{sectorNumber}
 use Rattle.flash.specs.Buffers.{Flash, Shaped, fits}
 use Rattle.flash_status.specs.declared.BootStatus.{BootStatus}
 use Rattle.flash_status.specs.declared.BootStatus.the-variants.{New as BootNew, Testing, Success}
-use Rattle.flash_status.specs.declared.BootStatusAnswer.{BootStatusAnswer}
-use Rattle.flash_status.specs.declared.BootStatusAnswer.the-variants.{Boot, NotAllowed as BootNotAllowed}
 use Rattle.flash_status.specs.declared.UpdateStatus.{UpdateStatus}
 use Rattle.flash_status.specs.declared.UpdateStatus.the-variants.{New as UpdateNew, Updating}
-use Rattle.flash_status.specs.declared.UpdateStatusAnswer.{UpdateStatusAnswer}
-use Rattle.flash_status.specs.declared.UpdateStatusAnswer.the-variants.{Update as UpdateIs, NotAllowed as UpdateNotAllowed}
 use Rattle.flash_flags.specs.declared.Leg.{Leg}
 use Rattle.flash_flags.specs.declared.Leg.the-variants.{UpdateToSwap}
 use Rattle.flash_flags.specs.declared.Flags.{Flags}
 use Rattle.flash_flags.specs.declared.Flags.the-variants.{Malformed, AllF, At, All0}
-use Rattle.flash_status.specs.StatusBytes.{statusByte, bootByte, bootStatusAnswer, bootStatusOf, bootStatusAt, updateByte, updateStatusAnswer, updateStatusOf, updateStatusAt}
+use Rattle.flash_status.specs.StatusBytes.{statusByte, bootStatusOf, bootStatusAt, updateStatusOf, updateStatusAt}
 use Rattle.flash_flags.specs.SectorFlags.{flagsAt}
 use Rattle.exchange.specs.declared.Operation.{Operation}
 use Rattle.exchange.specs.declared.Operation.the-variants.{Erase, EraseUpdateTrailer}
@@ -39,6 +35,7 @@ use Rattle.exchange.specs.PowerUp.{Outcome, refusal, cut, runs, runsOnTe
 use Rattle.exchange.specs.Demand.{Exchange, update, fallback, jobOf, Starts, Underway, from-new, from-success, from-testing}
 use Rattle.exchange.specs.RuledOut.{Reads, StatusBad, inBoot, inUpdate, IsRun, BadBoot, badBoot, TurnedDown, BeforeWork, outsideRules, statusNotAllowed, flagsNotWellFormed, noGoodFallback, RefusedBefore, RuledOut}
 use Rattle.flash.proofs.Checked.{shaped-of}
+use Rattle.flash_status.proofs.Ten.{boot-refused, update-refused}
 use Rattle.flash_flags.proofs.Laws.{update-erased}
 use Rattle.exchange.proofs.Orders.{next-by-reads, decide-by-reads}
 use Rattle.exchange.proofs.Runs.{run-none, run-some, run-count, run-flash, operations-first, run-within, power-up-works}
@@ -285,23 +282,11 @@ asRefusal (gives a) = numbered 0 0
 asRefusal (refused n p) = numbered n p
 
 -- a status that is not allowed is 10
-boot-ten : (a : BootStatusAnswer) (n p : ℕ) → bootStatusAnswer a ≡ refused n p → numbered 10 0 ≡ numbered n p
-boot-ten (Boot b) n p e = absurd (let z : _≡_ {A = ℕ} 0 1 = cc in omega arith)
-boot-ten BootNotAllowed n p e = ap asRefusal e
-
-update-ten : (a : UpdateStatusAnswer) (n p : ℕ) → updateStatusAnswer a ≡ refused n p → numbered 10 0 ≡ numbered n p
-update-ten (UpdateIs u) n p e = absurd (let z : _≡_ {A = ℕ} 0 1 = cc in omega arith)
-update-ten UpdateNotAllowed n p e = ap asRefusal e
-
 boot-status-ten : (c n p : ℕ) → bootStatusOf c ≡ refused n p → numbered 10 0 ≡ numbered n p
-unfolding bootStatusOf
-boot-status-ten c n p e =
-    boot-ten (cond (eqb c (bootByte BootNew)) (Boot BootNew) (cond (eqb c (bootByte Testing)) (Boot Testing) (cond (eqb c (bootByte Success)) (Boot Success) BootNotAllowed))) n p e
+boot-status-ten c n p e = ap asRefusal (boot-refused c n p e)
 
 update-status-ten : (c n p : ℕ) → updateStatusOf c ≡ refused n p → numbered 10 0 ≡ numbered n p
-unfolding updateStatusOf
-update-status-ten c n p e =
-    update-ten (cond (eqb c (updateByte UpdateNew)) (UpdateIs UpdateNew) (cond (eqb c (updateByte Updating)) (UpdateIs Updating) UpdateNotAllowed)) n p e
+update-status-ten c n p e = ap asRefusal (update-refused c n p e)
 
 by-answers : (fit : Bool) (bs : Answer BootStatus) (us : Answer UpdateStatus) → fit ≡ true → ((n p : ℕ) → bs ≡ refused n p → numbered 10 0 ≡ numbered n p)
     → ((n p : ℕ) → us ≡ refused n p → numbered 10 0 ≡ numbered n p) → (v : Flags) (y z : Answer ℕ) → Planned fit bs us y z (decideStatuses bs us v y z)
