@@ -6,7 +6,7 @@ use native.Mathlib.Decide.{decLt}
 use native.Mathlib.Omega.{arith}
 use lib.Dec.{ltb}
 use borrow.Author.Tests.{lt-ltb, le-ltb}
-use Rattle.numbers.specs.Answer.{Answer, gives, refused, because, noReason, Refusal, numbered}
+use Rattle.numbers.specs.Answer.{Answer, gives, refused, because, noReason, Refusal}
 use Rattle.flash.specs.declared.Geometry.{Geometry}
 use Rattle.flash.specs.Buffers.{Flash, fits}
 use Rattle.flash_status.specs.declared.BootStatus.{BootStatus}
@@ -114,7 +114,7 @@ pub accepted : (check : Check) (x : Exchange) (g : Geometry) (f : Flash) → Sta
 unfolding decide
 accepted check x g f s =
     let k = cond-work (fits g f)
-    (decideStatuses (bootStatusAt g (f .boot)) (updateStatusAt g (f .update)) (flagsAt g (f .update)) (check g (f .update)) (check g (f .boot))) (numbered 1 0) x (s .decided) in
+    (decideStatuses (bootStatusAt g (f .boot)) (updateStatusAt g (f .update)) (flagsAt g (f .update)) (check g (f .update)) (check g (f .boot))) _ x (s .decided) in
     let t : Both x (bootStatusAt g (f .boot)) (updateStatusAt g (f .update)) (check g (f .update)) (check g (f .boot))
     = by-answers x (bootStatusAt g (f .boot)) (updateStatusAt g (f .update)) (check g (f .update)) (check g (f .boot))
     (ap (λ (v : Flags). decideStatuses (bootStatusAt g (f .boot)) (updateStatusAt g (f .update)) v (check g (f .update)) (check g (f .boot))) (sym (s .flagsF)) ∙ k .1) in

@@ -322,9 +322,9 @@ outcomeNumber runsOnTest = 0
 outcomeNumber runsFallenBack = 0
 
 not-11 : (o : Next) (v : Answer ℕ) (r : Refusal) → numberOf r ≡ 11 → outcomeBy o Update v ≡ refusal r → ⊥
-not-11 Nothing (gives v) r n e = let z : _≡_ {A = ℕ} 0 11 = ap outcomeNumber e ∙ n in omega arith
-not-11 Nothing (refused m q) r n e = let z : _≡_ {A = ℕ} 12 11 = ap outcomeNumber e ∙ n in omega arith
-not-11 (Do o) v r n e = let z : _≡_ {A = ℕ} 0 11 = ap outcomeNumber e ∙ n in omega arith
+not-11 Nothing (gives v) r n e = omega (arith, ap outcomeNumber e ∙ n)
+not-11 Nothing (refused m q) r n e = omega (arith, ap outcomeNumber e ∙ n)
+not-11 (Do o) v r n e = omega (arith, ap outcomeNumber e ∙ n)
 
 -- an exchange that has begun
 abbrev Resumes : Flags → Type 0

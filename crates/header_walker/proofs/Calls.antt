@@ -64,7 +64,7 @@ ends-from w (suc n) e =
     subst Stops (sym (answer-front w n)) (one-call w n e (λ p. ends-from (record { header = w .header; at = p }) n) (walkerAnswer w) refl)
 
 pub ends : Ends
-ends s n e = ends-from (startOf s) n (omega arith)
+ends w n e = ends-from w n (omega arith)
 
 -- ---- all tags, in their order
 module _ (s : List ℕ) (enough : 256 ≤ length s) where

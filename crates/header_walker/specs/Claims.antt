@@ -1,7 +1,7 @@
 -- What document 01, "The header", says of the offered walker: of the struct `TagWalker`, after any number of calls of `next` (`Walker.antt`).
 -- proofs/Answers.antt and proofs/Calls.antt prove each of these.
 use mathlib.Core.Path.{_≡_}
-use Prim.Native.Nat.{ℕ, zero, suc, _+_, _<_, _≤_}
+use Prim.Native.Nat.{ℕ, zero, suc, _+_, _*_, _<_, _≤_}
 use mathlib.Core.List.{List, _∷_, _++_}
 use mathlib.Core.Logic.{_⊎_}
 use lib.ListN.{length, take, replicate}
@@ -61,6 +61,7 @@ Unread = (a b l : List ℕ) (v w : TagWalker) (n : ℕ) → length a ≡ firstTa
 abbrev pub TagWithin : Type 0
 TagWithin = (w : TagWalker) (n q t k : ℕ) → callAnswer n w ≡ gives (tag q t k) → (afterCalls n w .at ≤ q) × (q + 4 + k ≤ 256)
 
--- So a new walker gives 62 tags at most, of four bytes each: call number 62 and each after it is the end or a refusal.
+-- So the walk ends, wherever the walker stands: a tag takes four bytes at least, so a quarter of the bytes left is enough calls. A new walker,
+-- at 8, has stopped after 62.
 abbrev pub Ends : Type 0
-Ends = (s : RefT (List ℕ)) (n : ℕ) → 62 ≤ n → Stops (callAnswer n (startOf s))
+Ends = (w : TagWalker) (n : ℕ) → 256 ≤ w .at + 4 * n → Stops (callAnswer n w)
