@@ -13,11 +13,11 @@ abbrev pub ended : ℕ → Ended
 ended outcome = record { outcome = outcome; number = 0; inner = 0; place = 0 }
 
 -- A refusal is outcome 0: its number, and the own number and place of a bad image within it.
-abbrev pub refusedWith : RefusedInside → Ended
-refusedWith r = record { outcome = 0; number = r .number; inner = r .inner; place = r .place }
+abbrev pub endedRefused : RefusedInside → Ended
+endedRefused r = record { outcome = 0; number = r .number; inner = r .inner; place = r .place }
 
 abbrev pub endedOf : Outcome → Ended
-endedOf (refusal r) = refusedWith (threeNumbers r)
+endedOf (refusal r) = endedRefused (threeNumbers r)
 endedOf cut = ended 1
 endedOf runs = ended 2
 endedOf runsOnTest = ended 3

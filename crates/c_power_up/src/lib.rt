@@ -6,7 +6,7 @@ ghost use mathlib.Core.Path.{_≡_};
 ghost use Rattle.numbers.specs.GivenBack.{refusalOf};
 ghost use Rattle.exchange_commands.specs.Numbers.{commandOf};
 ghost use Rattle.power_up.specs.Delivered.{outcomeOf};
-ghost use Rattle.c_power_up.specs.Outcomes.{ended, refusedWith, endedOf, countOf};
+ghost use Rattle.c_power_up.specs.Outcomes.{ended, endedRefused, endedOf, countOf};
 
 // How a power-up ended: its outcome, and of a refusal the number, and the own number and place of a bad image within it.
 pub struct Ended {
@@ -41,7 +41,7 @@ fn end(outcome: u64) -> Ended
 }
 
 fn refused_with(r: RefusedInside) -> Ended
-    ensures { λ e. ⌜ e ≡ refusedWith r ⌝ }
+    ensures { λ e. ⌜ e ≡ endedRefused r ⌝ }
 {
     Ended {
         outcome: Ended::REFUSED,

@@ -1,27 +1,56 @@
 -- Demand 3 and the marked cases, of the delivered check. Assumes nothing.
+use mathlib.Core.Path.{_≡_, ap, subst}
 use mathlib.Core.List.{map}
+use Prim.Native.Nat.{_≤_}
 use Rattle.flash.specs.declared.Geometry.{Geometry}
-use Rattle.exchange.specs.Demand.{ReadsFirmware}
+use Rattle.flash.specs.Sizes.{geometry}
+use Rattle.flash.specs.Buffers.{Flash}
+use Rattle.exchange.specs.PowerUp.{PowerUp, nextAfter}
+use Rattle.exchange.specs.LostPower.{tearNext}
+use Rattle.exchange.specs.Demand.{Exchange, Finished, ReadsFirmware, Event, untorn, lost, Left, leftUntorn, leftLost, left, EndsAsAllowed}
 use Rattle.exchange.specs.Cases.{exchangeCases, three}
-use Rattle.exchange.proofs.Whole.{demand-3-ongoing, demand-3}
+use Rattle.exchange.proofs.Along.{same-allowed}
+use Rattle.exchange.proofs.Seen.{safe-seen}
+use Rattle.exchange.proofs.Whole.{demand-3-ongoing, starts-ongoing}
 use Rattle.exchange.proofs.Cases.{marked-exchange}
 use Rattle.numbers.proofs.Every.{every-map, every-append}
 use Rattle.header_round_trips.specs.Cases.{headerCases}
 use Rattle.header_round_trips.proofs.Marked.{header-cases}
 use Rattle.image.specs.Verdict.{checkOf}
 use Rattle.image.proofs.Verdicts.{check-reads-firmware}
-use Rattle.delivered.specs.Demand.{Demand3, Demand3Ongoing}
+use Rattle.delivered.specs.Demand.{Gave, CallEvent, keptPower, cutOff, Happens, seen, Demand3, Demand3Ongoing}
 use Rattle.delivered.specs.MarkedCases.{ofExchange, ofHeader, MarkedCaseHolds, MarkedCases}
 
 -- the delivered check reads the firmware sectors and nothing else
 pub reads-firmware : (g : Geometry) → ReadsFirmware checkOf g
 reads-firmware g l l′ e e′ same = check-reads-firmware g l l′ same
 
-pub demand-3-delivered : Demand3
-demand-3-delivered x g f starts es allowed = demand-3 checkOf x g f (reads-firmware g) starts es allowed
+-- a power-up of the calls, as the rules have it
+abbrev pub ruled : CallEvent → Event
+ruled (keptPower n s budget whole) = untorn (geometry n s) budget
+ruled (cutOff n s budget whole k part t) = lost (geometry n s) budget k t
+
+-- what the calls gave is what the rules have
+pub as-ruled : (x : Exchange) (g : Geometry) (f : Flash) (e : CallEvent) → (¬ Finished x g f) × Happens g f e
+    → (seen f e ≡ left checkOf f (ruled e)) × ((¬ Finished x g f) × EndsAsAllowed checkOf g f (ruled e))
+unfolding left
+as-ruled x g f (keptPower n s budget whole) h = (ap (leftUntorn (geometry n s) budget) (h .1), (h .0, tt))
+as-ruled x g f (cutOff n s budget whole k part t) h = (
+  ap (λ (a : PowerUp). leftLost k (tearNext (geometry n s) t (nextAfter checkOf (geometry n s) f k) (a .flash))) (h .1 .1),
+  (h .0, (subst (λ (a : PowerUp). k ≤ a .count) (h .1 .0) (h .1 .2), h .1 .3)),
+)
+
+abbrev pub at : Left → Flash
+at l = l .flash
 
 pub demand-3-ongoing-delivered : Demand3Ongoing
-demand-3-ongoing-delivered x g old f a ongoing es allowed = demand-3-ongoing checkOf x g old f a (reads-firmware g) ongoing es allowed
+demand-3-ongoing-delivered x g old f a ongoing es allowed =
+    let r = same-allowed at seen (left checkOf) ruled (λ before e. (¬ Finished x g before) × Happens g before e)
+    (λ before e. (¬ Finished x g before) × EndsAsAllowed checkOf g before e) (as-ruled x g) es f allowed in
+    safe-seen checkOf seen ruled x g old f a es (r .0) (demand-3-ongoing checkOf x g old f a (reads-firmware g) ongoing (map ruled es) (r .1))
+
+pub demand-3-delivered : Demand3
+demand-3-delivered x g f starts es allowed = demand-3-ongoing-delivered x g f f 0 (starts-ongoing checkOf x g f starts) es allowed
 
 pub marked-cases : MarkedCases
 marked-cases =

@@ -2,3 +2,4 @@
 pub mod Demand
 pub mod MarkedCases
 pub mod Witness
+pub mod PastFinish

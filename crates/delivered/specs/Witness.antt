@@ -8,12 +8,14 @@ use lib.ListN.{length, replicate}
 use Rattle.digest_fips180.specs.Sha256.{sha256}
 use Rattle.header_reader.specs.declared.Header.{Header}
 use Rattle.header_writer.specs.Writing.{headerBytes}
+use Rattle.flash.specs.declared.Geometry.{Geometry}
 use Rattle.flash.specs.Buffers.{Flash, flash}
 use Rattle.exchange.specs.LostPower.{Torn}
-use Rattle.exchange.specs.Demand.{Exchange, update, fallback, Starts, most}
+use Rattle.exchange.specs.Demand.{Exchange, update, fallback, Starts, Ongoing, Event, left, flashAfter, Allowed, most}
 use Rattle.exchange.specs.Cases.{three}
-use Rattle.exchange.specs.Reached.{Reached}
+use Rattle.exchange.specs.Reached.{roughList, Reached}
 use Rattle.image.specs.Verdict.{checkOf}
+use Rattle.delivered.specs.Demand.{CallEvent, seen, AllowedCalls}
 
 -- An image of a version, over a firmware of one byte, in two sectors of 256; and a trailer sector with a status byte.
 abbrev pub headerOf : ℕ → Header
@@ -39,9 +41,24 @@ armed = flash (imagePartition 7 0x00) (imagePartition 8 0x70) (replicate 256 0)
 unfoldable pub onTest : Flash
 onTest = flash (imagePartition 7 0x10) (imagePartition 6 0xFF) (replicate 256 0)
 
+-- A list of calls that 01 allows from f, and that leaves what the rules have of the list es.
+pub record Called (x : Exchange) (g : Geometry) (f : Flash) (es : List Event) : Type 0 where
+  pub calls : List CallEvent
+  pub allowed : AllowedCalls x g f calls
+  pub leaves : flashAfter seen f calls ≡ flashAfter (left checkOf) f es
+
+-- The calls are there for every list: wherever an exchange is under way, for each list that the rules allow there are answers and bytes that
+-- meet the contract of `power_up`.
+abbrev pub EveryListCalled : Type 0
+EveryListCalled =
+    (x : Exchange) (g : Geometry) (old f : Flash) (a : ℕ) → Ongoing checkOf x g old f a → (es : List Event) → Allowed checkOf x g f es
+    → Called x g f es
+
+-- A start, and from there a list with a refused power-up, a torn copy and the finish: by the rules, and as calls.
 pub record Witness (x : Exchange) (f : Flash) : Type 0 where
   pub starts : Starts checkOf x three f
   pub finishes : (t : Torn) → length (t .bytes) ≡ 256 → (budget : ℕ) → most x 2 + 2 ≤ budget → Reached checkOf x three f t budget
+  pub called : (t : Torn) → length (t .bytes) ≡ 256 → (budget : ℕ) → most x 2 + 2 ≤ budget → Called x three f (roughList three t budget)
 
 pub record Witnesses : Type 0 where
   pub ofUpdate : Witness update armed

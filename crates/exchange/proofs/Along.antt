@@ -1,5 +1,6 @@
--- Lists of calls by induction, once: an invariant with a number of operations left, and what each call pays for.
-use mathlib.Core.List.{List, [], _∷_}
+-- Lists of calls by induction, once: an invariant with a number of operations left, and what each call pays for; and one list read in two ways.
+use mathlib.Core.Path.{_≡_, refl, sym, ap, ap₂, _∙_, subst}
+use mathlib.Core.List.{List, [], _∷_, map}
 use Prim.Native.Nat.{ℕ, _+_, _*_, _≤_}
 use native.Mathlib.Omega.{arith}
 use native.Mathlib.Nat.{mul-add}
@@ -33,3 +34,44 @@ module _ {S C : Type 0} (next : S → C → S) (P Q : S → C → S → Type 0) 
             paid = rw (mul-add w (extra s c) (summed next extra (next s c) cs)) (omega (arith, p .paid, l .paid));
             claim = (p .claim, l .claim);
           }
+
+-- ---- one list, read in two ways: a call c as it is, and as the call `ruled c` of another kind, of which the same is seen
+
+module _ {S C D L : Type 0} (at : L → S) (see : S → C → L) (see′ : S → D → L) (ruled : C → D) where
+  abbrev next : S → C → S
+  next s c = at (see s c)
+
+  abbrev next′ : S → D → S
+  next′ s d = at (see′ s d)
+
+  abbrev pub Same : S → List C → Type 0
+  Same s cs = Along next (λ s₁ c s₂. see s₁ c ≡ see′ s₁ (ruled c)) s cs
+
+  pub same-after : (cs : List C) (s : S) → Same s cs → stateAfter next s cs ≡ stateAfter next′ s (map ruled cs)
+  same-after [] s h = refl
+  same-after (c ∷ cs) s h = same-after cs (next s c) (h .1) ∙ ap (λ (t : S). stateAfter next′ t (map ruled cs)) (ap at (h .0))
+
+  pub same-sum : (n : L → ℕ) (cs : List C) (s : S) → Same s cs
+      → summed next (λ s₁ c. n (see s₁ c)) s cs ≡ summed next′ (λ s₁ d. n (see′ s₁ d)) s (map ruled cs)
+  same-sum n [] s h = refl
+  same-sum n (c ∷ cs) s h =
+      ap₂ _+_ (ap n (h .0))
+      (same-sum n cs (next s c) (h .1) ∙ ap (λ (t : S). summed next′ (λ s₁ d. n (see′ s₁ d)) t (map ruled cs)) (ap at (h .0)))
+
+  pub same-along : (Q : S → L → Type 0) (cs : List C) (s : S) → Same s cs → Along next′ (λ s₁ d s₂. Q s₁ (see′ s₁ d)) s (map ruled cs)
+      → Along next (λ s₁ c s₂. Q s₁ (see s₁ c)) s cs
+  same-along Q [] s h q = tt
+  same-along Q (c ∷ cs) s h q = (
+    subst (Q s) (sym (h .0)) (q .0),
+    same-along Q cs (next s c) (h .1) (subst (λ (t : S). Along next′ (λ s₁ d s₂. Q s₁ (see′ s₁ d)) t (map ruled cs)) (sym (ap at (h .0))) (q .1)),
+  )
+
+  -- what is allowed of the one is allowed of the other
+  pub same-allowed : (P : S → C → Type 0) (Q : S → D → Type 0) → ((s : S) (c : C) → P s c → (see s c ≡ see′ s (ruled c)) × Q s (ruled c)) → (cs : List C) (s : S)
+      → Along next (λ s₁ c s₂. P s₁ c) s cs → Same s cs × Along next′ (λ s₁ d s₂. Q s₁ d) s (map ruled cs)
+  same-allowed P Q one [] s h = (tt, tt)
+  same-allowed P Q one (c ∷ cs) s h = with-rest (one s c (h .0)) (same-allowed P Q one cs (next s c) (h .1))
+    where
+      with-rest : (see s c ≡ see′ s (ruled c)) × Q s (ruled c) → Same (next s c) cs × Along next′ (λ s₁ d s₂. Q s₁ d) (next s c) (map ruled cs)
+          → Same s (c ∷ cs) × Along next′ (λ s₁ d s₂. Q s₁ d) s (map ruled (c ∷ cs))
+      with-rest e r = ((e .0, r .0), (e .1, subst (λ (t : S). Along next′ (λ s₁ d s₂. Q s₁ d) t (map ruled cs)) (ap at (e .0)) (r .1)))

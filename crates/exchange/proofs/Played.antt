@@ -20,7 +20,7 @@ use Rattle.exchange.specs.Order.{nextOperation, Run, run}
 use Rattle.exchange.specs.Decision.{Check, refuse, decide, Good}
 use Rattle.exchange.specs.PowerUp.{refusal, PowerUp, outcomeBy, worked, idle, carryOut, powerUp, nextIn, nextAfter}
 use Rattle.exchange.specs.LostPower.{Torn, tearNext}
-use Rattle.exchange.specs.Demand.{Exchange, update, jobOf, ReadsFirmware, Finished, untorn, lost, Event, Left, leftUntorn, left, flashLeft, EndsAsAllowed, FlagMovedOn, IsRefusal, MovesOn, CutOrDone, Answers, Underway}
+use Rattle.exchange.specs.Demand.{Exchange, update, jobOf, ReadsFirmware, Finished, untorn, lost, Event, Left, leftUntorn, left, flashLeft, EndsAsAllowed, FlagMovedOn, IsRefusal, MovesOn, CutOrDone, AnswersRight, Underway, leftLost}
 use Rattle.flash.proofs.Bytes.{sectors-front}
 use Rattle.flash.proofs.Checked.{shaped-of, shaped-fits, same-geometry}
 use Rattle.flash_flags.proofs.Moves.{leg-below}
@@ -57,8 +57,8 @@ module _ (check : Check) (g : Geometry) (G : Limits g) (old : Flash) {x : Exchan
 
   pub record Played (f : Flash) (r : ℕ) (e : Event) : Type 0 where
     pub pays : Paid r (left check f e)
-    pub moves : MovesOn check x g f e (flashLeft check f e)
-    pub says : Answers check x g f e (flashLeft check f e)
+    pub moves : MovesOn x g f ((left check f e) .power) (flashLeft (left check) f e)
+    pub says : AnswersRight x g f ((left check f e) .power) (flashLeft (left check) f e)
 
   -- ---- refused
   module _ (g′ : Geometry) (f : Flash) (r : ℕ) (s : Stage (Decides check g B) g old B f 0 (suc r)) (w : fits g′ f ≡ false) where
@@ -73,9 +73,9 @@ module _ (check : Check) (g : Geometry) (G : Limits g) (old : Flash) {x : Exchan
     refused-untorn : (b : ℕ) → Played f (suc r) (untorn g′ b)
     unfolding left
     refused-untorn b = record {
-      pays = subst (λ (a : PowerUp). Paid (suc r) (leftUntorn a)) (sym (refuses b)) (record { rest = suc r; stage = s; paid = omega arith });
+      pays = subst (λ (a : PowerUp). Paid (suc r) (leftUntorn g′ b a)) (sym (refuses b)) (record { rest = suc r; stage = s; paid = omega arith });
       moves = λ n m. absurd (n (subst (λ (a : PowerUp). IsRefusal (a .outcome)) (sym (refuses b)) tt));
-      says = inl (w, ap (λ (a : PowerUp). a .outcome) (refuses b));
+      says = (ap (λ (a : PowerUp). a .reason) (refuses b), inl (w, ap (λ (a : PowerUp). a .outcome) (refuses b)));
     }
 
     refused-lost : (b k : ℕ) (t : Torn) → k ≤ (powerUp check g′ f b) .count → Played f (suc r) (lost g′ b k t)
@@ -103,11 +103,11 @@ module _ (check : Check) (g : Geometry) (G : Limits g) (old : Flash) {x : Exchan
     next-in k = ap (nextIn g f k) (decided check g G old B f r s)
 
     -- untorn: the end, or a cut
-    pays-untorn : (k : ℕ) (w : Run) → Walked (Decides check g B) g old B (suc r) k w → Paid (suc r) (leftUntorn (worked check g (jobOf x) noReason w))
+    pays-untorn : (k : ℕ) (w : Run) → Walked (Decides check g B) g old B (suc r) k w → Paid (suc r) (leftUntorn g k (worked check g (jobOf x) noReason w))
     pays-untorn k w v = by (suc r - w .count) refl (v .stage)
       where
         goal : Type 0
-        goal = Paid (suc r) (leftUntorn (worked check g (jobOf x) noReason w))
+        goal = Paid (suc r) (leftUntorn g k (worked check g (jobOf x) noReason w))
 
         by : (q : ℕ) → suc r - w .count ≡ q → Stage (Decides check g B) g old B (w .flash) (w .phase) q → goal
         by zero e y = record {
@@ -126,11 +126,11 @@ module _ (check : Check) (g : Geometry) (G : Limits g) (old : Flash) {x : Exchan
 
     -- power lost after k
     pays-lost : (k : ℕ) (t : Torn) (w : Run) → length (t .bytes) ≡ g .size → k ≤ suc r → Walked (Decides check g B) g old B (suc r) k w
-        → Paid (suc r) (record { flash = tearNext g t (nextOperation (jobOf x) g (w .phase) (w .flash)) (w .flash); done = k; early = 1 })
+        → Paid (suc r) (leftLost k (tearNext g t (nextOperation (jobOf x) g (w .phase) (w .flash)) (w .flash)))
     pays-lost k t w T h v = by (suc r - w .count) refl (v .stage)
       where
         goal : Type 0
-        goal = Paid (suc r) (record { flash = tearNext g t (nextOperation (jobOf x) g (w .phase) (w .flash)) (w .flash); done = k; early = 1 })
+        goal = Paid (suc r) (leftLost k (tearNext g t (nextOperation (jobOf x) g (w .phase) (w .flash)) (w .flash)))
 
         by : (q : ℕ) → suc r - w .count ≡ q → Stage (Decides check g B) g old B (w .flash) (w .phase) q → goal
         by zero e y =
@@ -177,12 +177,15 @@ module _ (check : Check) (g : Geometry) (G : Limits g) (old : Flash) {x : Exchan
     right-untorn : (b : ℕ) → Played f (suc r) (untorn g b)
     unfolding left
     right-untorn b = record {
-      pays = subst (λ (a : PowerUp). Paid (suc r) (leftUntorn a)) (sym (works b)) (pays-untorn b (run (jobOf x) g b 0 f) (walked g G old B b f 0 (suc r) s));
+      pays = subst (λ (a : PowerUp). Paid (suc r) (leftUntorn g b a)) (sym (works b)) (pays-untorn b (run (jobOf x) g b 0 f) (walked g G old B b f 0 (suc r) s));
       moves = λ n m. subst (λ (a : PowerUp). Finished x g (a .flash) ⊎ FlagMovedOn g f (a .flash)) (sym (works b)) (moves-untorn b (omega arith));
-      says = inr (
-        shaped-fits g f (shaped-at s),
-        subst (λ (a : PowerUp). CutOrDone x g (a .outcome) (a .flash)) (sym (works b))
-            (says-untorn b (run (jobOf x) g b 0 f) (walked g G old B b f 0 (suc r) s)),
+      says = (
+        ap (λ (a : PowerUp). a .reason) (works b),
+        inr (
+          shaped-fits g f (shaped-at s),
+          subst (λ (a : PowerUp). CutOrDone x g (a .outcome) (a .flash)) (sym (works b))
+              (says-untorn b (run (jobOf x) g b 0 f) (walked g G old B b f 0 (suc r) s)),
+        ),
       );
     }
 
@@ -191,7 +194,7 @@ module _ (check : Check) (g : Geometry) (G : Limits g) (old : Flash) {x : Exchan
     right-lost b k t h T =
         let z : k ≤ (run (jobOf x) g b 0 f) .count = subst (λ (a : PowerUp). k ≤ a .count) (works b) h in
         record {
-          pays = subst (λ (y : Flash). Paid (suc r) (record { flash = y; done = k; early = 1 }))
+          pays = subst (λ (y : Flash). Paid (suc r) (leftLost k y))
               (sym (ap₂ (λ (o : Next) (a : PowerUp). tearNext g t o (a .flash)) (next-in k) (works k)))
               (pays-lost k t (run (jobOf x) g k 0 f) T (omega (arith, (walked g G old B b f 0 (suc r) s) .counted)) (walked g G old B k f 0 (suc r) s));
           moves = tt;

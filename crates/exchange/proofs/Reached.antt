@@ -44,7 +44,7 @@ module _ (check : Check) (g : Geometry) (G : Limits g) (old : Flash) {x : Exchan
     (I : OldRuns check g old) where
   record Ends (f : Flash) (es : List Event) : Type 0 where
     allowed : Allowed check x g f es
-    finished : Finished x g (flashAfter check f es)
+    finished : Finished x g (flashAfter (left check) f es)
 
   -- with budget enough a power-up finishes
   finishes : (f : Flash) (r budget : ℕ) → Stage (Decides check g B) g old B f 0 (suc r) → suc r ≤ budget → Finished x g ((powerUp check g f budget) .flash)

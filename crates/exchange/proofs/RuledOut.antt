@@ -6,7 +6,7 @@ use mathlib.Core.List.{List, [], _∷_}
 use Prim.Native.Nat.{ℕ, zero, suc, _≤_}
 use native.Mathlib.Omega.{arith}
 use lib.ListN.{length, take}
-use lib.Dec.{ltb, eqb}
+use lib.Dec.{ltb}
 use Rattle.numbers.specs.Answer.{Answer, gives, refused, Refusal, numbered, inside, numberOf, Reason, noReason, because}
 use Rattle.flash.specs.declared.Geometry.{Geometry}
 use Rattle.flash.specs.declared.SectorNumber.{SectorNumber}
@@ -14,17 +14,13 @@ use Rattle.flash.specs.Sectors.{sectorNumber}
 use Rattle.flash.specs.Buffers.{Flash, Shaped, fits}
 use Rattle.flash_status.specs.declared.BootStatus.{BootStatus}
 use Rattle.flash_status.specs.declared.BootStatus.the-variants.{New as BootNew, Testing, Success}
-use Rattle.flash_status.specs.declared.BootStatusAnswer.{BootStatusAnswer}
-use Rattle.flash_status.specs.declared.BootStatusAnswer.the-variants.{Boot, NotAllowed as BootNotAllowed}
 use Rattle.flash_status.specs.declared.UpdateStatus.{UpdateStatus}
 use Rattle.flash_status.specs.declared.UpdateStatus.the-variants.{New as UpdateNew, Updating}
-use Rattle.flash_status.specs.declared.UpdateStatusAnswer.{UpdateStatusAnswer}
-use Rattle.flash_status.specs.declared.UpdateStatusAnswer.the-variants.{Update as UpdateIs, NotAllowed as UpdateNotAllowed}
 use Rattle.flash_flags.specs.declared.Leg.{Leg}
 use Rattle.flash_flags.specs.declared.Leg.the-variants.{UpdateToSwap}
 use Rattle.flash_flags.specs.declared.Flags.{Flags}
 use Rattle.flash_flags.specs.declared.Flags.the-variants.{Malformed, AllF, At, All0}
-use Rattle.flash_status.specs.StatusBytes.{statusByte, bootByte, bootStatusAnswer, bootStatusOf, bootStatusAt, updateByte, updateStatusAnswer, updateStatusOf, updateStatusAt}
+use Rattle.flash_status.specs.StatusBytes.{statusByte, bootStatusOf, bootStatusAt, updateStatusOf, updateStatusAt}
 use Rattle.flash_flags.specs.SectorFlags.{flagsAt}
 use Rattle.exchange.specs.declared.Operation.{Operation}
 use Rattle.exchange.specs.declared.Operation.the-variants.{Erase, EraseUpdateTrailer}
@@ -34,11 +30,12 @@ use Rattle.exchange.specs.declared.Job.{Job}
 use Rattle.exchange.specs.declared.Job.the-variants.{Update, Fallback, TurnDown}
 use Rattle.exchange.specs.Operations.{target, perform, performAll}
 use Rattle.exchange.specs.Order.{nextOperation, Run, stopped, oneMore, run}
-use Rattle.exchange.specs.Decision.{Check, Good, Plan, refuse, plain, work, accept, decideUpdate, decideFallback, decideClosing, decideBy, decideStatuses, decide}
+use Rattle.exchange.specs.Decision.{Check, Good, Plan, refuse, plain, work, accept, decideUpdate, decideFallback, decideClosing, decideBy, decideStatuses, decideWithin, decide}
 use Rattle.exchange.specs.PowerUp.{Outcome, refusal, cut, runs, runsOnTest, runsFallenBack, PowerUp, ifBootGood, doneOutcome, outcomeBy, idle, carryOut, powerUp, operationsIn, operationsOf}
 use Rattle.exchange.specs.Demand.{Exchange, update, fallback, jobOf, Starts, Underway, from-new, from-success, from-testing}
-use Rattle.exchange.specs.RuledOut.{Reads, IsRun, BadBoot, badBoot, TurnedDown, BeforeWork, outsideRules, statusNotAllowed, flagsNotWellFormed, noGoodFallback, RefusedBefore, RuledOut}
+use Rattle.exchange.specs.RuledOut.{Reads, StatusBad, inBoot, inUpdate, IsRun, BadBoot, badBoot, TurnedDown, BeforeWork, outsideRules, statusNotAllowed, flagsNotWellFormed, noGoodFallback, RefusedBefore, RuledOut}
 use Rattle.flash.proofs.Checked.{shaped-of}
+use Rattle.flash_status.proofs.Ten.{boot-refused, update-refused}
 use Rattle.flash_flags.proofs.Laws.{update-erased}
 use Rattle.exchange.proofs.Orders.{next-by-reads, decide-by-reads}
 use Rattle.exchange.proofs.Runs.{run-none, run-some, run-count, run-flash, operations-first, run-within, power-up-works}
@@ -224,10 +221,15 @@ not-closing AllF h = refl
 not-closing (At i leg) h = refl
 not-closing All0 h = absurd (h refl)
 
-malformed-11 : {x : Exchange} {b : BootStatus} {u : UpdateStatus} → Underway x b u → (y z : Answer ℕ) → decideBy b u Malformed y z ≡ refuse (numbered 11 0)
-malformed-11 from-new y z = refl
-malformed-11 from-success y z = refl
-malformed-11 from-testing y z = refl
+malformed-11 : (b : BootStatus) (u : UpdateStatus) → (u ≡ Updating) ⊎ (b ≡ Testing) → (y z : Answer ℕ) → decideBy b u Malformed y z ≡ refuse (numbered 11 0)
+malformed-11 BootNew UpdateNew (inl e) y z = absurd (let k : _≡_ {A = ℕ} 0 1 = cc in omega arith)
+malformed-11 BootNew UpdateNew (inr e) y z = absurd (let k : _≡_ {A = ℕ} 0 1 = cc in omega arith)
+malformed-11 Success UpdateNew (inl e) y z = absurd (let k : _≡_ {A = ℕ} 0 1 = cc in omega arith)
+malformed-11 Success UpdateNew (inr e) y z = absurd (let k : _≡_ {A = ℕ} 0 1 = cc in omega arith)
+malformed-11 Testing UpdateNew h y z = refl
+malformed-11 BootNew Updating h y z = refl
+malformed-11 Success Updating h y z = refl
+malformed-11 Testing Updating h y z = refl
 
 -- ---- the plans that there are, by the lengths and the statuses
 
@@ -280,23 +282,11 @@ asRefusal (gives a) = numbered 0 0
 asRefusal (refused n p) = numbered n p
 
 -- a status that is not allowed is 10
-boot-ten : (a : BootStatusAnswer) (n p : ℕ) → bootStatusAnswer a ≡ refused n p → numbered 10 0 ≡ numbered n p
-boot-ten (Boot b) n p e = absurd (let z : _≡_ {A = ℕ} 0 1 = cc in omega arith)
-boot-ten BootNotAllowed n p e = ap asRefusal e
-
-update-ten : (a : UpdateStatusAnswer) (n p : ℕ) → updateStatusAnswer a ≡ refused n p → numbered 10 0 ≡ numbered n p
-update-ten (UpdateIs u) n p e = absurd (let z : _≡_ {A = ℕ} 0 1 = cc in omega arith)
-update-ten UpdateNotAllowed n p e = ap asRefusal e
-
 boot-status-ten : (c n p : ℕ) → bootStatusOf c ≡ refused n p → numbered 10 0 ≡ numbered n p
-unfolding bootStatusOf
-boot-status-ten c n p e =
-    boot-ten (cond (eqb c (bootByte BootNew)) (Boot BootNew) (cond (eqb c (bootByte Testing)) (Boot Testing) (cond (eqb c (bootByte Success)) (Boot Success) BootNotAllowed))) n p e
+boot-status-ten c n p e = ap asRefusal (boot-refused c n p e)
 
 update-status-ten : (c n p : ℕ) → updateStatusOf c ≡ refused n p → numbered 10 0 ≡ numbered n p
-unfolding updateStatusOf
-update-status-ten c n p e =
-    update-ten (cond (eqb c (updateByte UpdateNew)) (UpdateIs UpdateNew) (cond (eqb c (updateByte Updating)) (UpdateIs Updating) UpdateNotAllowed)) n p e
+update-status-ten c n p e = ap asRefusal (update-refused c n p e)
 
 by-answers : (fit : Bool) (bs : Answer BootStatus) (us : Answer UpdateStatus) → fit ≡ true → ((n p : ℕ) → bs ≡ refused n p → numbered 10 0 ≡ numbered n p)
     → ((n p : ℕ) → us ≡ refused n p → numbered 10 0 ≡ numbered n p) → (v : Flags) (y z : Answer ℕ) → Planned fit bs us y z (decideStatuses bs us v y z)
@@ -328,6 +318,49 @@ planned check g f = by (fits g f) refl
     by true e =
         by-answers true bs us refl (boot-status-ten (statusByte g (f .boot))) (update-status-ten (statusByte g (f .update))) (flagsAt g (f .update)) y z
     by false e = refuses (numbered 1 0) (inl outsideRules)
+
+-- ---- the order of the checks
+
+outside-first : (check : Check) (g : Geometry) (f : Flash) (budget : ℕ) → fits g f ≡ false → powerUp check g f budget ≡ idle (refusal (numbered 1 0)) f
+unfolding powerUp decide
+outside-first check g f budget e = ap (λ (t : Bool). carryOut check g f budget (cond t (decideWithin check g (f .boot) (f .update)) (refuse (numbered 1 0)))) e
+
+-- a status that is not allowed, whatever the rest
+status-refuses : (bs : Answer BootStatus) (us : Answer UpdateStatus) → ((n p : ℕ) → bs ≡ refused n p → numbered 10 0 ≡ numbered n p)
+    → ((n p : ℕ) → us ≡ refused n p → numbered 10 0 ≡ numbered n p) → (n p : ℕ) → (bs ≡ refused n p) ⊎ (us ≡ refused n p) → (v : Flags) (y z : Answer ℕ)
+    → decideStatuses bs us v y z ≡ refuse (numbered 10 0)
+status-refuses (refused m q) us h k n p w v y z = ap refuse (sym (h m q refl))
+status-refuses (gives b) (refused m q) h k n p w v y z = ap refuse (sym (k m q refl))
+status-refuses (gives b) (gives u) h k n p (inl e) v y z = absurd (let j : _≡_ {A = ℕ} 0 1 = cc in omega arith)
+status-refuses (gives b) (gives u) h k n p (inr e) v y z = absurd (let j : _≡_ {A = ℕ} 0 1 = cc in omega arith)
+
+status-next : (check : Check) (g : Geometry) (f : Flash) (budget : ℕ) → fits g f ≡ true → StatusBad g f
+    → powerUp check g f budget ≡ idle (refusal (numbered 10 0)) f
+unfolding powerUp decide
+status-next check g f budget e w =
+    ap (carryOut check g f budget)
+    (ap (λ (t : Bool). cond t (decideWithin check g (f .boot) (f .update)) (refuse (numbered 1 0))) e ∙ by w)
+  where
+    refuses-with : (n p : ℕ) → (bootStatusAt g (f .boot) ≡ refused n p) ⊎ (updateStatusAt g (f .update) ≡ refused n p)
+        → decideWithin check g (f .boot) (f .update) ≡ refuse (numbered 10 0)
+    refuses-with n p h =
+        status-refuses (bootStatusAt g (f .boot)) (updateStatusAt g (f .update)) (boot-status-ten (statusByte g (f .boot))) (update-status-ten (statusByte g (f .update))) n p h
+        (flagsAt g (f .update)) (check g (f .update)) (check g (f .boot))
+
+    by : StatusBad g f → decideWithin check g (f .boot) (f .update) ≡ refuse (numbered 10 0)
+    by (inBoot n p h) = refuses-with n p (inl h)
+    by (inUpdate n p h) = refuses-with n p (inr h)
+
+by-plain : (b : BootStatus) (v : Flags) (y z : Answer ℕ) → b ≢ Testing → decideBy b UpdateNew v y z ≡ plain
+by-plain BootNew v y z h = refl
+by-plain Success v y z h = refl
+by-plain Testing v y z h = absurd (h refl)
+
+plain-unread : (check : Check) (g : Geometry) (f : Flash) (b : BootStatus) (v : Flags) (budget : ℕ) → b ≢ Testing → Reads g f b UpdateNew v
+    → powerUp check g f budget ≡ idle (ifBootGood runs (check g (f .boot))) f
+unfolding powerUp
+plain-unread check g f b v budget h r =
+    ap (carryOut check g f budget) (reads-decide check g f b UpdateNew v r ∙ by-plain b v (check g (f .update)) (check g (f .boot)) h)
 
 -- ---- turning down
 
@@ -455,8 +488,11 @@ ruled-out = record {
   runsGood = what-runs;
   reasonErases = reason-erases;
   closingOnly = λ check g f v budget r h. eleven check g f budget (reads-decide check g f Testing Updating v r ∙ not-closing v h);
-  malformedRefused = λ check x g f b u budget w r.
-      eleven check g f budget (reads-decide check g f b u Malformed r ∙ malformed-11 w (check g (f .update)) (check g (f .boot)));
+  outsideFirst = outside-first;
+  statusNext = status-next;
+  malformedRefused = λ check g f b u budget w r.
+      eleven check g f budget (reads-decide check g f b u Malformed r ∙ malformed-11 b u w (check g (f .update)) (check g (f .boot)));
+  plainUnread = plain-unread;
   refusedBefore = refused-before;
   badBoot = bad-boot;
   noneCounted = none-counted;

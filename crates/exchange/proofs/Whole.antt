@@ -125,7 +125,7 @@ module _ (check : Check) (g : Geometry) (G : Limits g) (old : Flash) {x : Exchan
     Between y n = Stage (Decides check g B) g old B y 0 n × (n + 3 * a ≤ 9 * firmware g + closingLeft (closing B))
 
     each : (f : Flash) (r : ℕ) (e : Event) → Between f r → (¬ Finished x g f) × EndsAsAllowed check g f e
-        → Pays (flashLeft check) (λ y d z. (¬ Finished x g y) × EndsAsAllowed check g y d) (EachSafe check x g) Between
+        → Pays (flashLeft (left check)) (λ y d z. (¬ Finished x g y) × EndsAsAllowed check g y d) (λ y d z. EachSafe x g y (left check y d)) Between
         (λ y d. (left check y d) .done) (λ y d. (left check y d) .early) 2 f r e
     each f zero e s h = absurd (h .0 (end-of g old B f 0 (s .0)))
     each f (suc r) e s h =
@@ -133,11 +133,11 @@ module _ (check : Check) (g : Geometry) (G : Limits g) (old : Flash) {x : Exchan
         let k : p .pays .rest ≤ suc r + 2 = omega (arith, p .pays .paid, early-small check f e) in
         record {
           rest = p .pays .rest;
-          holds = (p .pays .stage, none-undone g old B f (flashLeft check f e) a r (p .pays .rest) w k (s .1) (s .0) (p .pays .stage));
+          holds = (p .pays .stage, none-undone g old B f (flashLeft (left check) f e) a r (p .pays .rest) w k (s .1) (s .0) (p .pays .stage));
           paid = p .pays .paid;
           claim = record {
             movesOn = p .moves;
-            noFlagBack = none-back g old B f (flashLeft check f e) r (p .pays .rest) k (s .0) (p .pays .stage);
+            noFlagBack = none-back g old B f (flashLeft (left check) f e) r (p .pays .rest) k (s .0) (p .pays .stage);
             answers = p .says;
           };
         }
@@ -146,17 +146,17 @@ module _ (check : Check) (g : Geometry) (G : Limits g) (old : Flash) {x : Exchan
     goes-on f zero s e = absurd (e (end-of g old B f 0 (s .0)))
     goes-on f (suc r) s e = let v : Again check g old B f (suc r) = again f r (s .0) in (v .moves, omega (arith, s .1, v .least-left), v .ongoing)
 
-    safe : (f : Flash) (r : ℕ) → Between f r → (es : List Event) → Allowed check x g f es → Safe check x g old f a es
+    safe : (f : Flash) (r : ℕ) → Between f r → (es : List Event) → Allowed check x g f es → Safe check (left check) x g old f a es
     safe f r s es h =
-        let l = along (flashLeft check) (λ y d z. (¬ Finished x g y) × EndsAsAllowed check g y d) (EachSafe check x g) Between
+        let l = along (flashLeft (left check)) (λ y d z. (¬ Finished x g y) × EndsAsAllowed check g y d) (λ y d z. EachSafe x g y (left check y d)) Between
         (λ y d. (left check y d) .done) (λ y d. (left check y d) .early) 2 each es f r s h in
         record {
-          fit = shaped-fits g (flashAfter check f es) (shaped-at (l .holds .0));
-          inPlace = in-place g old B (flashAfter check f es) (l .rest) (l .holds .0);
-          ongoing = goes-on (flashAfter check f es) (l .rest) (l .holds);
+          fit = shaped-fits g (flashAfter (left check) f es) (shaped-at (l .holds .0));
+          inPlace = in-place g old B (flashAfter (left check) f es) (l .rest) (l .holds .0);
+          ongoing = goes-on (flashAfter (left check) f es) (l .rest) (l .holds);
           bounded = omega (arith, l .paid, s .1, closing-most B (firmware g));
           each = l .claim;
-          atFinish = at-finish g old B (flashAfter check f es) (l .rest) (l .holds .0);
+          atFinish = at-finish g old B (flashAfter (left check) f es) (l .rest) (l .holds .0);
         }
 
 -- ---- where a list starts is a stage
@@ -268,7 +268,7 @@ demand-3-ongoing check x g old f a R o es h = by x (o .boot) (o .update) (o .sta
 
     by : (y : Exchange) (b : BootStatus) (u : UpdateStatus) → StatusesAt (firmware g) y a b u → bootStatusAt g (f .boot) ≡ gives b
         → updateStatusAt g (f .update) ≡ gives u → (flagsAt g (f .update) ≡ AllF → decide check g f ≡ work (jobOf y) noReason)
-        → Allowed check y g f es → Safe check y g old f a es
+        → Allowed check y g f es → Safe check (left check) y g old f a es
     by y b u (inLegs B) e₁ e₂ d h =
         let v = begins check g old f a B (o .fit) e₁ e₂ (o .stands) d in
         safe check g (s .limits) old B (o .oldWhole) (o .oldGood) I a (o .stands .within) f (v .left) (v .stage, omega (arith, v .counted)) es h

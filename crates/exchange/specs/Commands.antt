@@ -52,8 +52,8 @@ abbrev pub armOperations : List Operation
 armOperations = EraseUpdateTrailer ∷ WriteUpdateStatus Updating ∷ []
 
 -- Arm, whole: its checks, and then both operations or a refusal.
-unfoldable pub arm : Geometry → Flash → Command
-arm g f = command g armOperations (checked g f mayArm) f
+unfoldable pub armCommand : Geometry → Flash → Command
+armCommand g f = command g armOperations (checked g f mayArm) f
 
 -- Confirm: BOOT has to be TESTING and UPDATE NEW, else 14; then malformed flags are 11; then flags that are not all F are 14.
 abbrev pub confirmFlags : Flags → Answer (Unit {0})
@@ -75,5 +75,5 @@ abbrev pub confirmOperations : List Operation
 confirmOperations = WriteBootStatus Success ∷ []
 
 -- Confirm, whole.
-unfoldable pub confirm : Geometry → Flash → Command
-confirm g f = command g confirmOperations (checked g f (mayConfirm (flagsAt g (f .update)))) f
+unfoldable pub confirmCommand : Geometry → Flash → Command
+confirmCommand g f = command g confirmOperations (checked g f (mayConfirm (flagsAt g (f .update)))) f

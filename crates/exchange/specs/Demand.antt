@@ -5,7 +5,7 @@ use mathlib.Core.Bool.{true, false}
 use mathlib.Core.List.{List}
 use Prim.Native.Nat.{ℕ, _+_, _-_, _*_, _≤_, _<_}
 use lib.ListN.{length}
-use Rattle.numbers.specs.Answer.{gives, numbered, noReason}
+use Rattle.numbers.specs.Answer.{gives, numbered, Reason, noReason}
 use Rattle.flash.specs.declared.Geometry.{Geometry}
 use Rattle.flash.specs.Sizes.{firmware, partitionSize}
 use Rattle.flash.specs.Sectors.{firmwareOf, erased}
@@ -110,11 +110,18 @@ pub data Event : Type 0 where
   untorn : Geometry → ℕ → Event
   lost : Geometry → ℕ → ℕ → Torn → Event
 
--- What it leaves: the bytes, how many operations were completed, and 1 if it ended early, else 0.
+-- Of a power-up that kept its power: the geometry and the budget that it was given, and the outcome and the reason that it told.
+pub data Kept : Type 0 where
+  kept : Geometry → ℕ → Outcome → Reason → Kept
+  lostPower : Kept
+
+-- What is seen of a power-up: the bytes that it leaves, how many operations were completed, 1 if it ended early, else 0, and what it was
+-- given and answered if it kept its power.
 pub record Left : Type 0 where
   pub flash : Flash
   pub done : ℕ
   pub early : ℕ
+  pub power : Kept
 
 abbrev pub isCut : Outcome → ℕ
 isCut (refusal r) = 0
@@ -123,21 +130,25 @@ isCut runs = 0
 isCut runsOnTest = 0
 isCut runsFallenBack = 0
 
-abbrev pub leftUntorn : PowerUp → Left
-leftUntorn a = record { flash = a .flash; done = a .count; early = isCut (a .outcome) }
+-- Untorn: what the call itself leaves and counts; "cut" is an early end.
+abbrev pub leftUntorn : Geometry → ℕ → PowerUp → Left
+leftUntorn g budget a = record { flash = a .flash; done = a .count; early = isCut (a .outcome); power = kept g budget (a .outcome) (a .reason) }
 
--- Untorn: what the call itself leaves and counts, and "cut" is an early end. Power lost after k: what the same call leaves with the
--- budget k, with its next operation torn; k are counted, the torn one is not, and the end is early. Where the budget is used up at k,
--- this allows a torn operation that the call would not have begun: more than can happen.
+-- Power lost after k operations, where f is left: k are counted, a torn one is not, and the end is early.
+abbrev pub leftLost : ℕ → Flash → Left
+leftLost k f = record { flash = f; done = k; early = 1; power = lostPower }
+
+-- By the rules. Power lost after k leaves what the same call leaves with the budget k, with its next operation torn. Where the budget is
+-- used up at k, this allows a torn operation that the call would not have begun: more than can happen.
 unfoldable pub left : Check → Flash → Event → Left
-left check f (untorn g budget) = leftUntorn (powerUp check g f budget)
-left check f (lost g budget k t) = record { flash = tearNext g t (nextAfter check g f k) ((powerUp check g f k) .flash); done = k; early = 1 }
+left check f (untorn g budget) = leftUntorn g budget (powerUp check g f budget)
+left check f (lost g budget k t) = leftLost k (tearNext g t (nextAfter check g f k) ((powerUp check g f k) .flash))
 
 -- ---- a list of them
 
--- The flash goes from one power-up to the next.
-abbrev pub flashLeft : Check → Flash → Event → Flash
-flashLeft check f e = (left check f e) .flash
+-- `see` is what is seen of each power-up of a list, by the flash that it finds. The flash goes from one to the next.
+abbrev pub flashLeft : {E : Type 0} → (Flash → E → Left) → Flash → E → Flash
+flashLeft see f e = (see f e) .flash
 
 -- Power fails after no more operations than the call would do with its budget, so after none if it is refused; torn bytes fill a sector.
 abbrev pub EndsAsAllowed : Check → Geometry → Flash → Event → Type 0
@@ -146,17 +157,18 @@ EndsAsAllowed check g f (lost g′ budget k t) = (k ≤ (powerUp check g′ f bu
 
 -- The lists that 01 allows from the flash f: no power-up comes after the finish.
 abbrev pub Allowed : Check → Exchange → Geometry → Flash → List Event → Type 0
-Allowed check x g f es = Along (flashLeft check) (λ before e after. (¬ Finished x g before) × EndsAsAllowed check g before e) f es
+Allowed check x g f es =
+    Along (flashLeft (left check)) (λ before e after. (¬ Finished x g before) × EndsAsAllowed check g before e) f es
 
 -- The bytes after a list, the operations completed in it, and how many of its power-ups ended early: the c of the bound.
-abbrev pub flashAfter : Check → Flash → List Event → Flash
-flashAfter check f es = stateAfter (flashLeft check) f es
+abbrev pub flashAfter : {E : Type 0} → (Flash → E → Left) → Flash → List E → Flash
+flashAfter see f es = stateAfter (flashLeft see) f es
 
-abbrev pub completed : Check → Flash → List Event → ℕ
-completed check f es = summed (flashLeft check) (λ before e. (left check before e) .done) f es
+abbrev pub completed : {E : Type 0} → (Flash → E → Left) → Flash → List E → ℕ
+completed see f es = summed (flashLeft see) (λ before e. (see before e) .done) f es
 
-abbrev pub earlyEnds : Check → Flash → List Event → ℕ
-earlyEnds check f es = summed (flashLeft check) (λ before e. (left check before e) .early) f es
+abbrev pub earlyEnds : {E : Type 0} → (Flash → E → Left) → Flash → List E → ℕ
+earlyEnds see f es = summed (flashLeft see) (λ before e. (see before e) .early) f es
 
 -- ---- what is claimed of each power-up
 
@@ -194,27 +206,26 @@ IsRefusal runsFallenBack = ⊥
 
 -- Progress: given three operations or more, a power-up that keeps its power and is not refused comes to the finish, or leaves some
 -- flag further on.
-abbrev pub MovesOn : Check → Exchange → Geometry → Flash → Event → Flash → Type 0
-MovesOn check x g before (untorn g′ budget) after =
-    ¬ IsRefusal ((powerUp check g′ before budget) .outcome) → 3 ≤ budget → Finished x g after ⊎ FlagMovedOn g before after
-MovesOn check x g before (lost g′ budget k t) after = Unit {0}
+abbrev pub MovesOn : Exchange → Geometry → Flash → Kept → Flash → Type 0
+MovesOn x g before (kept g′ budget o why) after = ¬ IsRefusal o → 3 ≤ budget → Finished x g after ⊎ FlagMovedOn g before after
+MovesOn x g before lostPower after = Unit {0}
 
 -- An answer beside the flash that is left: "cut" before the finish, and at the finish the outcome of an exchange that is done.
 abbrev pub CutOrDone : Exchange → Geometry → Outcome → Flash → Type 0
 CutOrDone x g o f = ((o ≡ cut) × (¬ Finished x g f)) ⊎ ((o ≡ doneOutcome (jobOf x)) × Finished x g f)
 
--- What an untorn power-up answers: refusal 1 for a wrong geometry or length, which is the only refusal; else by what it leaves.
-abbrev pub Answers : Check → Exchange → Geometry → Flash → Event → Flash → Type 0
-Answers check x g before (untorn g′ budget) after =
-    ((fits g′ before ≡ false) × ((powerUp check g′ before budget) .outcome ≡ refusal (numbered 1 0)))
-    ⊎ ((fits g′ before ≡ true) × CutOrDone x g ((powerUp check g′ before budget) .outcome) after)
-Answers check x g before (lost g′ budget k t) after = Unit {0}
+-- What an untorn power-up answers: refusal 1 for a wrong geometry or length, which is the only refusal; else by what it leaves. No update
+-- is turned down, so no reason is told.
+abbrev pub AnswersRight : Exchange → Geometry → Flash → Kept → Flash → Type 0
+AnswersRight x g before (kept g′ budget o why) after =
+    (why ≡ noReason) × (((fits g′ before ≡ false) × (o ≡ refusal (numbered 1 0))) ⊎ ((fits g′ before ≡ true) × CutOrDone x g o after))
+AnswersRight x g before lostPower after = Unit {0}
 
 -- Each power-up makes progress, none undoes any, torn or not, before the finish, and each answers as it should.
-pub record EachSafe (check : Check) (x : Exchange) (g : Geometry) (before : Flash) (e : Event) (after : Flash) : Type 0 where
-  pub movesOn : MovesOn check x g before e after
-  pub noFlagBack : ¬ Finished x g after → (i : ℕ) → i < firmware g → FlagNotBack g before after i
-  pub answers : Answers check x g before e after
+pub record EachSafe (x : Exchange) (g : Geometry) (before : Flash) (l : Left) : Type 0 where
+  pub movesOn : MovesOn x g before (l .power) (l .flash)
+  pub noFlagBack : ¬ Finished x g (l .flash) → (i : ℕ) → i < firmware g → FlagNotBack g before (l .flash) i
+  pub answers : AnswersRight x g before (l .power) (l .flash)
 
 -- ---- what is claimed of the finish
 
@@ -253,30 +264,31 @@ abbrev pub most : Exchange → ℕ → ℕ
 most update m = 9 * m + 3
 most fallback m = 9 * m + 1
 
--- All that is claimed of a list, as one claim. The exchange of what `old` holds stands a moves along at f, where the list starts.
-pub record Safe (check : Check) (x : Exchange) (g : Geometry) (old f : Flash) (a : ℕ) (es : List Event) : Type 0 where
+-- All that is claimed of a list, as one claim, by what is seen of its power-ups. The exchange of what `old` holds stands a moves along at
+-- f, where the list starts.
+pub record Safe (check : Check) {E : Type 0} (see : Flash → E → Left) (x : Exchange) (g : Geometry) (old f : Flash) (a : ℕ) (es : List E) : Type 0 where
   -- no length changes
-  pub fit : fits g (flashAfter check f es) ≡ true
+  pub fit : fits g (flashAfter see f es) ≡ true
   -- before the finish: where the old sectors stand
-  pub inPlace : ¬ Finished x g (flashAfter check f es) → (i : ℕ) → i < firmware g → InPlace g old (flashAfter check f es) i
+  pub inPlace : ¬ Finished x g (flashAfter see f es) → (i : ℕ) → i < firmware g → InPlace g old (flashAfter see f es) i
   -- and the exchange is under way, no fewer moves along, so that all of this holds from there too
-  pub ongoing : ¬ Finished x g (flashAfter check f es) → (b : ℕ) × (a ≤ b) × Ongoing check x g old (flashAfter check f es) b
+  pub ongoing : ¬ Finished x g (flashAfter see f es) → (b : ℕ) × (a ≤ b) × Ongoing check x g old (flashAfter see f es) b
   -- the bound on completed operations: three fewer for each move that was made before, and an early end costs two more at most, those of
   -- a leg that is begun again
-  pub bounded : completed check f es + 3 * a ≤ most x (firmware g) + 2 * earlyEnds check f es
-  -- each power-up of the list, with the flash before and after it
-  pub each : Along (flashLeft check) (EachSafe check x g) f es
+  pub bounded : completed see f es + 3 * a ≤ most x (firmware g) + 2 * earlyEnds see f es
+  -- each power-up of the list, with the flash before it and what is seen of it
+  pub each : Along (flashLeft see) (λ before e after. EachSafe x g before (see before e)) f es
   -- the finish
-  pub atFinish : Finished x g (flashAfter check f es) → AtFinish x g old (flashAfter check f es)
+  pub atFinish : Finished x g (flashAfter see f es) → AtFinish x g old (flashAfter see f es)
 
 -- For every image check that reads the firmware sectors only, every exchange under way and every list that 01 allows from there.
 abbrev pub Demand3Ongoing : Type 0
 Demand3Ongoing =
     (check : Check) (x : Exchange) (g : Geometry) (old f : Flash) (a : ℕ) → ReadsFirmware check g → Ongoing check x g old f a → (es : List Event)
-    → Allowed check x g f es → Safe check x g old f a es
+    → Allowed check x g f es → Safe check (left check) x g old f a es
 
 -- Demand 3: every start and every list that 01 allows from there. The old sectors are those of the list's first flash, and no move is behind it.
 abbrev pub Demand3 : Type 0
 Demand3 =
     (check : Check) (x : Exchange) (g : Geometry) (f : Flash) → ReadsFirmware check g → Starts check x g f → (es : List Event)
-    → Allowed check x g f es → Safe check x g f f 0 es
+    → Allowed check x g f es → Safe check (left check) x g f f 0 es

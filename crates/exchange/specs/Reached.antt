@@ -15,7 +15,7 @@ use Rattle.exchange.specs.declared.Next.the-variants.{Do}
 use Rattle.exchange.specs.Decision.{Check}
 use Rattle.exchange.specs.PowerUp.{refusal, powerUp, nextAfter}
 use Rattle.exchange.specs.LostPower.{Torn}
-use Rattle.exchange.specs.Demand.{Exchange, ReadsFirmware, Starts, Ongoing, Finished, untorn, lost, Event, Allowed, flashAfter, most}
+use Rattle.exchange.specs.Demand.{Exchange, ReadsFirmware, Starts, Ongoing, Finished, untorn, lost, Event, Allowed, left, flashAfter, most}
 
 -- A power-up with a geometry of no sectors, one that loses power after its first operation, and one that nothing disturbs.
 abbrev pub roughList : Geometry → Torn → ℕ → List Event
@@ -27,7 +27,7 @@ pub record Reached (check : Check) (x : Exchange) (g : Geometry) (f : Flash) (t 
   pub firstRefused : (powerUp check (geometry 0 0) f budget) .outcome ≡ refusal (numbered 1 0)
   pub copyTorn : nextAfter check g f 1 ≡ Do (Copy UpdateToSwap (sectorNumber 0))
   pub allowed : Allowed check x g f (roughList g t budget)
-  pub finished : Finished x g (flashAfter check f (roughList g t budget))
+  pub finished : Finished x g (flashAfter (left check) f (roughList g t budget))
 
 -- From every start, for all torn bytes and every budget that is enough.
 abbrev pub FinishReached : Type 0

@@ -1,7 +1,7 @@
 -- Document 01, "Power-up" and "Mistakes seen in loaders like this": what the rules rule out, each as a law of its own.
 use mathlib.Core.Path.{_≡_}
-use mathlib.Core.Logic.{_≢_}
-use mathlib.Core.Bool.{true}
+use mathlib.Core.Logic.{_≢_, _⊎_}
+use mathlib.Core.Bool.{true, false}
 use Prim.Native.Nat.{ℕ, _≤_, _<_}
 use lib.ListN.{length, take}
 use Rattle.numbers.specs.Answer.{Answer, gives, refused, Refusal, numbered, inside, numberOf, noReason, because}
@@ -23,7 +23,7 @@ use Rattle.exchange.specs.declared.Operation.the-variants.{Erase, EraseU
 use Rattle.exchange.specs.declared.Job.the-variants.{Update}
 use Rattle.exchange.specs.Operations.{target, perform, performAll}
 use Rattle.exchange.specs.Decision.{Check, Good, work, decide}
-use Rattle.exchange.specs.PowerUp.{Outcome, refusal, cut, runs, runsOnTest, runsFallenBack, PowerUp, idle, powerUp, operationsOf}
+use Rattle.exchange.specs.PowerUp.{Outcome, refusal, cut, runs, runsOnTest, runsFallenBack, PowerUp, ifBootGood, idle, powerUp, operationsOf}
 use Rattle.exchange.specs.Demand.{Exchange, update, fallback, Underway, Starts}
 
 -- What is read of a flash of the right lengths: BOOT's and UPDATE's status, and what the flags show.
@@ -32,6 +32,11 @@ pub record Reads (g : Geometry) (f : Flash) (b : BootStatus) (u : UpdateStatus) 
   pub boot : bootStatusAt g (f .boot) ≡ gives b
   pub update : updateStatusAt g (f .update) ≡ gives u
   pub flags : flagsAt g (f .update) ≡ v
+
+-- A status byte that is not allowed there, in BOOT or in UPDATE.
+pub data StatusBad (g : Geometry) (f : Flash) : Type 0 where
+  inBoot : (n p : ℕ) → bootStatusAt g (f .boot) ≡ refused n p → StatusBad g f
+  inUpdate : (n p : ℕ) → updateStatusAt g (f .update) ≡ refused n p → StatusBad g f
 
 -- By the image checks of UPDATE and of BOOT: both are good, and UPDATE's version is greater.
 pub record Newer (u b : Answer ℕ) : Type 0 where
@@ -110,9 +115,16 @@ pub record RuledOut : Type 0 where
   -- with UPDATING and TESTING, flags that are not all 0 are 11
   pub closingOnly : (check : Check) (g : Geometry) (f : Flash) (v : Flags) (budget : ℕ) → Reads g f Testing Updating v → v ≢ All0
       → powerUp check g f budget ≡ idle (refusal (numbered 11 0)) f
-  -- flags that are not well formed are 11, in an update and in a fallback
-  pub malformedRefused : (check : Check) (x : Exchange) (g : Geometry) (f : Flash) (b : BootStatus) (u : UpdateStatus) (budget : ℕ) → Underway x b u
+  -- the order of the checks: geometry and lengths are 1, whatever the bytes; then a status byte that is not allowed is 10, whatever the
+  -- flags; then, if UPDATE is UPDATING or BOOT is TESTING, flags that are not well formed are 11, whatever the images
+  pub outsideFirst : (check : Check) (g : Geometry) (f : Flash) (budget : ℕ) → fits g f ≡ false → powerUp check g f budget ≡ idle (refusal (numbered 1 0)) f
+  pub statusNext : (check : Check) (g : Geometry) (f : Flash) (budget : ℕ) → fits g f ≡ true → StatusBad g f
+      → powerUp check g f budget ≡ idle (refusal (numbered 10 0)) f
+  pub malformedRefused : (check : Check) (g : Geometry) (f : Flash) (b : BootStatus) (u : UpdateStatus) (budget : ℕ) → (u ≡ Updating) ⊎ (b ≡ Testing)
       → Reads g f b u Malformed → powerUp check g f budget ≡ idle (refusal (numbered 11 0)) f
+  -- Plain reads no flags and does nothing: BOOT is checked, and run if it is good
+  pub plainUnread : (check : Check) (g : Geometry) (f : Flash) (b : BootStatus) (v : Flags) (budget : ℕ) → b ≢ Testing → Reads g f b UpdateNew v
+      → powerUp check g f budget ≡ idle (ifBootGood runs (check g (f .boot))) f
   -- a refusal other than 12 is 1, 10, 11 or 13, and comes before any operation
   pub refusedBefore : (check : Check) (g : Geometry) (f : Flash) (budget : ℕ) (r : Refusal) → (powerUp check g f budget) .outcome ≡ refusal r
       → numberOf r ≢ 12 → RefusedBefore (check g (f .update)) r f (powerUp check g f budget)

@@ -8,19 +8,27 @@ use flash_status::Statuses;
 use flash_status::UpdateStatus;
 use numbers::CommandRefusal;
 ghost use mathlib.Core.Path.{_≡_};
-ghost use Rattle.flash.specs.Sizes.{geometry};
+ghost use Rattle.numbers.specs.Answer.{gives};
+ghost use Rattle.flash.specs.Sizes.{geometry, geometryAnswer};
 ghost use Rattle.flash.specs.Sectors.{Partition};
 ghost use Rattle.flash.specs.Buffers.{lent, Shaped};
-ghost use Rattle.flash_status.specs.StatusBytes.{bootStatusAt, updateStatusAt};
 ghost use Rattle.flash_flags.specs.SectorFlags.{flagsAt};
-ghost use Rattle.exchange.specs.Commands.{command, withStatuses, mayArm, armOperations, arm, confirmFlags, mayConfirm, confirmOperations, confirm};
+ghost use Rattle.exchange.specs.Commands.{command, mayArm, confirmFlags, mayConfirm, armCommand, confirmCommand};
 ghost use Rattle.exchange_commands.specs.Numbers.{commanded};
-ghost use Rattle.exchange_commands.specs.Inner.{permitOf};
+ghost use Rattle.exchange_commands.specs.Inner.{permitOf, mayDo, permitAt, commandOperations, ShapedWhere, commandAfter};
 
 // What arm and confirm answer: done, with the number of operations, or refused.
 pub enum CommandAnswer {
     Done(u64),
     Refused(CommandRefusal),
+}
+
+// ---- the commands
+
+// What can be commanded. The functions below say of each its checks and its operations.
+enum CommandKind {
+    Arm,
+    Confirm,
 }
 
 // ---- the checks before the operations
@@ -42,16 +50,6 @@ fn permit_arm(b: BootStatus, u: UpdateStatus) -> Permit
             BootStatus::Success => Permit::Granted,
         },
         UpdateStatus::Updating => Permit::Denied(CommandRefusal::WrongTime),
-    }
-}
-
-fn decide_arm(g: Geometry, boot: &[u8], update: &[u8]) -> Permit
-    requires { ⌜ (Partition g (now boot)) × (Partition g (now update)) ⌝ }
-    ensures { λ r. ⌜ permitOf r ≡ withStatuses (bootStatusAt g (now (boot .entry))) (updateStatusAt g (now (update .entry))) mayArm ⌝ }
-{
-    match flash_status::read_statuses(g, boot, update) {
-        Statuses::Allowed(b, u) => permit_arm(b, u),
-        Statuses::NotAllowed => Permit::Denied(CommandRefusal::StatusNotAllowed),
     }
 }
 
@@ -83,30 +81,50 @@ fn permit_confirm(g: Geometry, b: BootStatus, u: UpdateStatus, update: &[u8]) ->
     }
 }
 
-fn decide_confirm(g: Geometry, boot: &[u8], update: &[u8]) -> Permit
+// What a command wants, by the statuses and the flags.
+fn permit_by(
+    kind: CommandKind,
+    g: Geometry,
+    b: BootStatus,
+    u: UpdateStatus,
+    update: &[u8],
+) -> Permit
+    requires { ⌜ Partition g (now update) ⌝ }
+    ensures { λ r. ⌜ permitOf r ≡ mayDo kind (flagsAt g (now (update .entry))) b u ⌝ }
+{
+    match kind {
+        CommandKind::Arm => permit_arm(b, u),
+        CommandKind::Confirm => permit_confirm(g, b, u, update),
+    }
+}
+
+// The checks of a command that come after the lengths.
+fn decide(kind: CommandKind, g: Geometry, boot: &[u8], update: &[u8]) -> Permit
     requires { ⌜ (Partition g (now boot)) × (Partition g (now update)) ⌝ }
-    ensures { λ r. ⌜ permitOf r ≡ withStatuses (bootStatusAt g (now (boot .entry))) (updateStatusAt g (now (update .entry))) (mayConfirm (flagsAt g (now (update .entry)))) ⌝ }
+    ensures { λ r. ⌜ permitOf r ≡ permitAt kind g (now (boot .entry)) (now (update .entry)) ⌝ }
 {
     match flash_status::read_statuses(g, boot, update) {
-        Statuses::Allowed(b, u) => permit_confirm(g, b, u, update),
+        Statuses::Allowed(b, u) => permit_by(kind, g, b, u, update),
         Statuses::NotAllowed => Permit::Denied(CommandRefusal::StatusNotAllowed),
     }
 }
 
 // ---- the operations
 
-fn arm_if(
+// All operations of a command.
+fn do_operations(
+    kind: CommandKind,
     g: Geometry,
-    permit: Permit,
     boot: &mut [u8],
     update: &mut [u8],
     swap: &mut [u8],
 ) -> CommandAnswer
     requires { ⌜ Shaped g (lent boot update swap) ⌝ }
-    ensures { λ r. ⌜ commanded r (lent (boot .exit) (update .exit) (swap .exit)) ≡ command g armOperations (permitOf permit) (lent (boot .entry) (update .entry) (swap .entry)) ⌝ }
+    ensures { λ r. ⌜ commanded r (lent (boot .exit) (update .exit) (swap .exit))
+        ≡ command g (commandOperations kind) (gives tt) (lent (boot .entry) (update .entry) (swap .entry)) ⌝ }
 {
-    match permit {
-        Permit::Granted => {
+    match kind {
+        CommandKind::Arm => {
             exchange_steps::do_operation(g, Operation::EraseUpdateTrailer, boot, update, swap);
             exchange_steps::do_operation(
                 g,
@@ -117,22 +135,7 @@ fn arm_if(
             );
             CommandAnswer::Done(2)
         }
-        Permit::Denied(refusal) => CommandAnswer::Refused(refusal),
-    }
-}
-
-fn confirm_if(
-    g: Geometry,
-    permit: Permit,
-    boot: &mut [u8],
-    update: &mut [u8],
-    swap: &mut [u8],
-) -> CommandAnswer
-    requires { ⌜ Shaped g (lent boot update swap) ⌝ }
-    ensures { λ r. ⌜ commanded r (lent (boot .exit) (update .exit) (swap .exit)) ≡ command g confirmOperations (permitOf permit) (lent (boot .entry) (update .entry) (swap .entry)) ⌝ }
-{
-    match permit {
-        Permit::Granted => {
+        CommandKind::Confirm => {
             exchange_steps::do_operation(
                 g,
                 Operation::WriteBootStatus(BootStatus::Success),
@@ -142,7 +145,27 @@ fn confirm_if(
             );
             CommandAnswer::Done(1)
         }
-        Permit::Denied(refusal) => CommandAnswer::Refused(refusal),
+    }
+}
+
+// A command, after the check of geometry and lengths: where its own checks grant it, its operations.
+fn obey(
+    kind: CommandKind,
+    fit: GeometryAnswer,
+    boot: &mut [u8],
+    update: &mut [u8],
+    swap: &mut [u8],
+) -> CommandAnswer
+    requires { ⌜ ShapedWhere (geometryAnswer fit) (lent boot update swap) ⌝ }
+    ensures { λ r. ⌜ commanded r (lent (boot .exit) (update .exit) (swap .exit))
+        ≡ commandAfter kind (geometryAnswer fit) (lent (boot .entry) (update .entry) (swap .entry)) ⌝ }
+{
+    match fit {
+        GeometryAnswer::Fits(g) => match decide(kind, g, boot, update) {
+            Permit::Granted => do_operations(kind, g, boot, update, swap),
+            Permit::Denied(refusal) => CommandAnswer::Refused(refusal),
+        },
+        GeometryAnswer::Outside => CommandAnswer::Refused(CommandRefusal::OutsideRules),
     }
 }
 
@@ -154,15 +177,11 @@ pub fn arm(
     update: &mut [u8],
     swap: &mut [u8],
 ) -> CommandAnswer
-    ensures { λ r. ⌜ commanded r (lent (boot .exit) (update .exit) (swap .exit)) ≡ arm (geometry sectors size) (lent (boot .entry) (update .entry) (swap .entry)) ⌝ }
+    ensures { λ r. ⌜ commanded r (lent (boot .exit) (update .exit) (swap .exit))
+        ≡ armCommand (geometry sectors size) (lent (boot .entry) (update .entry) (swap .entry)) ⌝ }
 {
-    match flash::check_flash(sectors, size, boot, update, swap) {
-        GeometryAnswer::Fits(g) => {
-            let permit = decide_arm(g, boot, update);
-            arm_if(g, permit, boot, update, swap)
-        }
-        GeometryAnswer::Outside => CommandAnswer::Refused(CommandRefusal::OutsideRules),
-    }
+    let fit = flash::check_flash(sectors, size, boot, update, swap);
+    obey(CommandKind::Arm, fit, boot, update, swap)
 }
 
 // Keeps the image that runs on test. Any numbers, lengths and bytes are taken.
@@ -173,13 +192,9 @@ pub fn confirm(
     update: &mut [u8],
     swap: &mut [u8],
 ) -> CommandAnswer
-    ensures { λ r. ⌜ commanded r (lent (boot .exit) (update .exit) (swap .exit)) ≡ confirm (geometry sectors size) (lent (boot .entry) (update .entry) (swap .entry)) ⌝ }
+    ensures { λ r. ⌜ commanded r (lent (boot .exit) (update .exit) (swap .exit))
+        ≡ confirmCommand (geometry sectors size) (lent (boot .entry) (update .entry) (swap .entry)) ⌝ }
 {
-    match flash::check_flash(sectors, size, boot, update, swap) {
-        GeometryAnswer::Fits(g) => {
-            let permit = decide_confirm(g, boot, update);
-            confirm_if(g, permit, boot, update, swap)
-        }
-        GeometryAnswer::Outside => CommandAnswer::Refused(CommandRefusal::OutsideRules),
-    }
+    let fit = flash::check_flash(sectors, size, boot, update, swap);
+    obey(CommandKind::Confirm, fit, boot, update, swap)
 }

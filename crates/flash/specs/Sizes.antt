@@ -38,14 +38,14 @@ pub record Limits (g : Geometry) : Type 0 where
   -- the trailer fits one sector, which follows from the other limits
   pub trailer : trailerLength g ≤ g .size
 
--- what is outside the limits is refusal 1
-abbrev pub geometryAnswer : GeometryAnswer → Answer Geometry
-geometryAnswer (Fits g) = gives g
-geometryAnswer Outside = refused 1 0
-
--- the geometry of n sectors of s bytes where the rules hold, and otherwise the refusal
+-- the geometry of n sectors of s bytes where the rules hold; what is outside them is refusal 1
 abbrev pub geometryWhere : Bool → ℕ → ℕ → Answer Geometry
-geometryWhere b n s = geometryAnswer (cond b (Fits (geometry n s)) Outside)
+geometryWhere b n s = cond b (gives (geometry n s)) (refused 1 0)
 
 unfoldable pub geometryOf : ℕ → ℕ → Answer Geometry
 geometryOf n s = geometryWhere (withinLimits (geometry n s)) n s
+
+-- what each case of the code's answer says, for the contracts
+abbrev pub geometryAnswer : GeometryAnswer → Answer Geometry
+geometryAnswer (Fits g) = gives g
+geometryAnswer Outside = refused 1 0

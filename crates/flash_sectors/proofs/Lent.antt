@@ -1,5 +1,5 @@
 -- The loops of erase and copy, and a part of a partition that is lent and comes back.
-use mathlib.Core.Path.{_≡_, refl, ap}
+use mathlib.Core.Path.{_≡_, refl, sym, ap, _∙_}
 use mathlib.Core.List.{List, [], _∷_, _++_, append-nil, append-assoc}
 use Prim.Native.Nat.{ℕ, zero, suc, _+_, _-_, _≤_, _<_}
 use native.Mathlib.Nat.{le-of-suc-le-suc, not-suc-le-zero, add-sub-cancel-left}
@@ -46,6 +46,11 @@ mid-length a s xs h = simp (length-take, length-drop) (omega arith)
 pub part-read : {a b : ℕ} (s : ℕ) (xs : List ℕ) → a ≡ b → midOf a ((a + s) - a) xs ≡ part b s xs
 unfolding part
 part-read {a} {b} s xs e = rw (add-sub-cancel-left a s, e)
+
+-- copied to another buffer of s bytes
+pub part-copied : {a b : ℕ} (s : ℕ) (xs dst : List ℕ) {c : Copy} → a ≡ b → a + s ≤ length xs → length dst ≡ s → c ≡ copyOf dst (midOf a ((a + s) - a) xs)
+    → c .bytes ≡ part b s xs
+part-copied {a} s xs dst e h k q = copy-whole (midOf a ((a + s) - a) xs) dst (k ∙ sym (mid-length a s xs h)) q ∙ part-read s xs e
 
 -- given back at ys
 pub part-put : {a b : ℕ} (s : ℕ) (xs : List ℕ) {last ys : List ℕ} → a ≡ b → last ≡ ys → length ys ≡ s → putMid a ((a + s) - a) xs last ≡ patch b ys xs

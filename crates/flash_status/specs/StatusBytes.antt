@@ -35,17 +35,12 @@ bootByte BootNew = 0xFF
 bootByte Testing = 0x10
 bootByte Success = 0x00
 
--- any other byte is refusal 10
-abbrev pub bootStatusAnswer : BootStatusAnswer → Answer BootStatus
-bootStatusAnswer (Boot s) = gives s
-bootStatusAnswer BootNotAllowed = refused 10 0
-
+-- the status that a byte is; any other byte is refusal 10
 unfoldable pub bootStatusOf : ℕ → Answer BootStatus
 bootStatusOf b =
-    bootStatusAnswer
-    (cond (eqb b (bootByte BootNew)) (Boot BootNew)
-    (cond (eqb b (bootByte Testing)) (Boot Testing)
-    (cond (eqb b (bootByte Success)) (Boot Success) BootNotAllowed)))
+    cond (eqb b (bootByte BootNew)) (gives BootNew)
+    (cond (eqb b (bootByte Testing)) (gives Testing)
+    (cond (eqb b (bootByte Success)) (gives Success) (refused 10 0)))
 
 abbrev pub bootStatusAt : Geometry → List ℕ → Answer BootStatus
 bootStatusAt g l = bootStatusOf (statusByte g l)
@@ -58,16 +53,11 @@ abbrev pub updateByte : UpdateStatus → ℕ
 updateByte UpdateNew = 0xFF
 updateByte Updating = 0x70
 
--- any other byte is refusal 10
-abbrev pub updateStatusAnswer : UpdateStatusAnswer → Answer UpdateStatus
-updateStatusAnswer (Update s) = gives s
-updateStatusAnswer UpdateNotAllowed = refused 10 0
-
+-- the status that a byte is; any other byte is refusal 10
 unfoldable pub updateStatusOf : ℕ → Answer UpdateStatus
 updateStatusOf b =
-    updateStatusAnswer
-    (cond (eqb b (updateByte UpdateNew)) (Update UpdateNew)
-    (cond (eqb b (updateByte Updating)) (Update Updating) UpdateNotAllowed))
+    cond (eqb b (updateByte UpdateNew)) (gives UpdateNew)
+    (cond (eqb b (updateByte Updating)) (gives Updating) (refused 10 0))
 
 abbrev pub updateStatusAt : Geometry → List ℕ → Answer UpdateStatus
 updateStatusAt g l = updateStatusOf (statusByte g l)
@@ -76,11 +66,20 @@ abbrev pub setUpdateStatus : Geometry → UpdateStatus → List ℕ → List ℕ
 setUpdateStatus g v l = setStatusByte g (updateByte v) l
 
 -- both statuses, or the refusal of the first that is not allowed, BOOT's before UPDATE's
-abbrev pub statusesOf : Statuses → Answer (BootStatus × UpdateStatus)
-statusesOf (Allowed b u) = gives (b, u)
-statusesOf NotAllowed = refused 10 0
-
 abbrev pub bothStatuses : Answer BootStatus → Answer UpdateStatus → Answer (BootStatus × UpdateStatus)
 bothStatuses (refused n p) u = refused n p
 bothStatuses (gives b) (refused n p) = refused n p
 bothStatuses (gives b) (gives u) = gives (b, u)
+
+-- what each case of the code's answers says, for the contracts
+abbrev pub bootStatusAnswer : BootStatusAnswer → Answer BootStatus
+bootStatusAnswer (Boot s) = gives s
+bootStatusAnswer BootNotAllowed = refused 10 0
+
+abbrev pub updateStatusAnswer : UpdateStatusAnswer → Answer UpdateStatus
+updateStatusAnswer (Update s) = gives s
+updateStatusAnswer UpdateNotAllowed = refused 10 0
+
+abbrev pub statusesOf : Statuses → Answer (BootStatus × UpdateStatus)
+statusesOf (Allowed b u) = gives (b, u)
+statusesOf NotAllowed = refused 10 0

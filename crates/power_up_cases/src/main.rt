@@ -245,6 +245,7 @@ fn flags() {
 fn closing() {
     start(b"TESTING and UPDATING, flags F", 7, 0x10, 8, 0x70);
     update(b"TESTING and UPDATING, flags 0", 767, 0x10, 766, 0x00);
+    update(b"TESTING and UPDATING, flag byte F7", 767, 0x10, 766, 0xF7);
 }
 
 fn plain() {
@@ -255,6 +256,7 @@ fn plain() {
 fn fallbacks() {
     fallback(b"fallback, bad UPDATE", 767, 0x10, 300, 0);
     fallback(b"fallback, bad BOOT", 511, 0, 767, 0xFF);
+    fallback(b"fallback, flag byte 7F", 767, 0x10, 766, 0x7F);
 }
 
 fn print_command(answer: CommandAnswer) {

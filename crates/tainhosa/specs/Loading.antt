@@ -7,7 +7,7 @@ use lib.ListN.{length}
 use Rattle.flash.specs.Sizes.{geometry}
 use Rattle.flash.specs.Buffers.{Flash}
 use Rattle.exchange.specs.PowerUp.{PowerUp, powerUp}
-use Rattle.exchange.specs.Commands.{Command, arm, confirm}
+use Rattle.exchange.specs.Commands.{Command, armCommand, confirmCommand}
 use Rattle.image.specs.Verdict.{checkOf}
 use Rattle.numbers.specs.GivenBack.{refusalOf, reasonRefusal}
 use Rattle.c_power_up.specs.Outcomes.{endedOf, countOf, powerRow}
@@ -49,7 +49,7 @@ abbrev pub commandAnswer : Command → Flash → List ℕ → Loaded
 commandAnswer c f row = cond (eqb (length row) 1) (obeyed c) (wrongRow row f)
 
 abbrev pub armAnswer : ℕ → ℕ → Flash → List ℕ → Loaded
-armAnswer n s f row = commandAnswer (arm (geometry n s) f) f row
+armAnswer n s f row = commandAnswer (armCommand (geometry n s) f) f row
 
 abbrev pub confirmAnswer : ℕ → ℕ → Flash → List ℕ → Loaded
-confirmAnswer n s f row = commandAnswer (confirm (geometry n s) f) f row
+confirmAnswer n s f row = commandAnswer (confirmCommand (geometry n s) f) f row

@@ -119,10 +119,12 @@ fn main() {
     few("flag byte 00", boot(), with_byte(update(), 766, 0x00));
     few("TESTING and UPDATING, flags F", partition(7, 0x10), update());
     few("TESTING and UPDATING, flags 0", partition(7, 0x10), with_byte(update(), 766, 0x00));
+    few("TESTING and UPDATING, flag byte F7", partition(7, 0x10), with_byte(update(), 766, 0xF7));
     few("plain", boot(), partition(8, 0xFF));
     few("plain, bad BOOT", with_byte(boot(), 511, 0), partition(8, 0xFF));
     few("fallback, bad UPDATE", partition(7, 0x10), with_byte(partition(6, 0xFF), 300, 0));
     few("fallback, bad BOOT", with_byte(partition(7, 0x10), 511, 0), partition(6, 0xFF));
+    few("fallback, flag byte 7F", partition(7, 0x10), with_byte(partition(6, 0xFF), 766, 0x7F));
 
     commands("SUCCESS, NEW", partition(7, 0x00), partition(8, 0xFF));
     commands("NEW, NEW", partition(7, 0xFF), partition(8, 0xFF));

@@ -1,11 +1,11 @@
 use mathlib.Core.Path.{ap, _∙_}
-use Rattle.c_power_up.specs.Outcomes.{refusedWith}
+use Rattle.c_power_up.specs.Outcomes.{endedRefused}
 use borrow.Author.Needs.{needs}
 use Rattle.c_power_up.proofs.of_outcome.Statement.{statement}
 use Rattle.c_power_up.proofs.of_outcome.Tie as tie
 
 returns : tie.Need-returns
-returns c = rw (c .before .before .before .o .given .1) (c .refused-with .ensures ∙ ap refusedWith (c .before .of-power-up .ensures))
+returns c = rw (c .before .before .before .o .given .1) (c .refused-with .ensures ∙ ap endedRefused (c .before .of-power-up .ensures))
 
 returns-2 : tie.Need-returns-2
 returns-2 c = rw (c .before .enum-told .given .1) (c .end .ensures)

@@ -1,57 +1,30 @@
 use mathlib.Core.Path.{_∙_}
 use Rattle.flash.specs.Buffers.{flash}
-use Rattle.flash.proofs.Checked.{boot-partition, update-partition}
-use Rattle.flash.proofs.Answers.{flash-given}
-use Rattle.exchange_commands.specs.Inner.{permitOf}
-use Rattle.exchange_commands.proofs.Calls.{confirm-inside, confirm-outside}
+use Rattle.exchange_commands.proofs.Calls.{shaped-where, is-confirm}
 use borrow.Author.Needs.{needs}
 use Rattle.exchange_commands.proofs.confirm.Statement.{statement}
 use Rattle.exchange_commands.proofs.confirm.Tie as tie
 
-decide-confirm-requires : tie.Need-decide-confirm-requires
-decide-confirm-requires c κs =
+obey-requires : tie.Need-obey-requires
+obey-requires c κs =
     let c3 = c .before .before .before in
-    let c5 = c3 .before .before in
-    let S = flash-given _ _ _ _ (rw (c3 .g .given .1) at (c5 .check-flash .ensures)) in (boot-partition _ _ S, update-partition _ _ S)
-
-confirm-if-requires : tie.Need-confirm-if-requires
-confirm-if-requires c κs =
-    let c7 = c .before .before .before .before .before .before .before in
-    let c9 = c7 .before .before in
-    flash-given _ _ _ _ (rw (c7 .g .given .1) at (c9 .check-flash .ensures))
+    let a = c3 .before .before .before .before .before .before .before .args in
+    shaped-where (a .sectors) (a .size) (flash (a .boot .now) (a .update .now) (a .swap .now)) _ (c3 .check-flash .ensures)
 
 returns : tie.Need-returns
 returns c =
     let c6 = c .before .before .before .before .before .before in
     let c10 = c6 .before .before .before .before in
-    let c14 = c10 .before .before .before .before in
-    let c16 = c14 .before .before in
-    let c23 = c16 .before .before .before .before .before .before .before in
-    let a = c23 .args in
-    let d = c10 .decide-confirm in
-    c6 .confirm-if .ensures ∙ confirm-inside (a .sectors) (a .size) (flash (a .boot .now) (a .update .now) (a .swap .now)) _ (rw (c14 .g .given .1) at (c16 .check-flash .ensures)) (permitOf (d .result)) (d .ensures)
-
-returns-2 : tie.Need-returns-2
-returns-2 c =
-    let c2 = c .before .before in
-    let c9 = c2 .before .before .before .before .before .before .before in
-    let a = c9 .args in
-    confirm-outside (a .sectors) (a .size) (flash (a .boot .now) (a .update .now) (a .swap .now)) (rw (c .enum-told .given .1) at (c2 .check-flash .ensures))
+    let a = c10 .before .before .before .before .before .before .before .args in
+    c6 .obey .ensures ∙ is-confirm (a .sectors) (a .size) (flash (a .boot .now) (a .update .now) (a .swap .now)) _ (c10 .check-flash .ensures)
 
 pub confirm-spec : {M : Type 1} → statement M
 confirm-spec =
     tie.close
     (tie.spec
     (λ c κs. search needs)
-    (λ c. search needs)
-    decide-confirm-requires
-    confirm-if-requires
+    obey-requires
     (λ c. search needs)
     (λ c. search needs)
     (λ c. search needs)
-    (λ c. search needs)
-    returns
-    (λ c. search needs)
-    (λ c. search needs)
-    (λ c. search needs)
-    returns-2)
+    returns)

@@ -1,5 +1,5 @@
 use Rattle.flash_flags.specs.SectorFlags.{flagsAt}
-use mathlib.Core.Path.{sym}
+use mathlib.Core.Path.{refl, sym}
 use Rattle.exchange_commands.proofs.Readings.{confirm-updating}
 use borrow.Author.Needs.{needs}
 use Rattle.exchange_commands.proofs.permit_confirm.Statement.{statement}
@@ -11,10 +11,10 @@ returns c =
     rw (c3 .enum-told .given .1, c .before .enum-told2 .given .1) (c .permit-flags .ensures)
 
 returns-2 : tie.Need-returns-2
-returns-2 c = rw (c .before .before .enum-told .given .1, c .enum-told3 .given .1)
+returns-2 c = rw (c .before .before .enum-told .given .1, c .enum-told3 .given .1) refl
 
 returns-3 : tie.Need-returns-3
-returns-3 c = rw (c .before .before .enum-told .given .1, c .enum-told4 .given .1)
+returns-3 c = rw (c .before .before .enum-told .given .1, c .enum-told4 .given .1) refl
 
 returns-4 : tie.Need-returns-4
 returns-4 c =

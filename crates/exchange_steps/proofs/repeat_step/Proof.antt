@@ -35,13 +35,14 @@ phase-after-requires c κs = tt
 add-count : tie.Need-add-count Inv-loop μ-loop
 add-count c =
     let c14 = c .before .before .before .before .before .before .before .before .before .before .before .before .before .before in
-    let c19 = c14 .before .before .before .before .before in
-    omega (arith, c14 .loop-test .taken, c19 .fits .budget)
+    let c15 = c14 .before in
+    let c19 = c15 .before .before .before .before in
+    omega (arith, c14 .loop-test .taken, c15 .loop .inv .0, c19 .fits .budget)
 
 loop-less : tie.Need-loop-less Inv-loop μ-loop
 loop-less c =
     let c14 = c .before .before .before .before .before .before .before .before .before .before .before .before .before .before in
-    omega (arith, c14 .loop-test .taken)
+    omega (arith, c14 .loop-test .taken, c14 .before .loop .inv .0)
 
 loop-again : tie.Need-loop-again Inv-loop μ-loop
 loop-again c =
@@ -53,7 +54,7 @@ loop-again c =
     let l = c15 .loop in
     let a = c19 .args in
     let s = c10 .do-next in
-    let h : l .count < a .budget = c14 .loop-test .taken in (
+    let h : l .count < a .budget = omega (arith, c14 .loop-test .taken, l .inv .0) in (
       omega arith,
       shaped-kept (a .g) (l .boot) (l .update) (l .swap) _ _ _ (l .inv .1) (s .kept .1 .1 .1 .0) (s .kept .1 .1 .1 .1 .0) (s .kept .1 .1 .1 .1 .1 .0),
       run-on (a .job) (a .g) (a .budget) (l .count) (l .phase) (flash (l .boot) (l .update) (l .swap)) _ (s .result) (s .ensures) _ _ (c2 .op .given .1) (c .phase-after .ensures) h
@@ -90,7 +91,7 @@ returns c =
     let l = c13 .loop in
     let a = c17 .args in
     let s = c8 .do-next in
-    run-over (a .job) (a .g) (a .budget) (l .count) (l .phase) (flash (l .boot) (l .update) (l .swap)) _ (s .result) (s .ensures) (c .enum-told .given .1) (c12 .loop-test .taken)
+    run-over (a .job) (a .g) (a .budget) (l .count) (l .phase) (flash (l .boot) (l .update) (l .swap)) _ (s .result) (s .ensures) (c .enum-told .given .1) (omega (arith, c12 .loop-test .taken, l .inv .0))
     ∙ l .inv .2
 
 same-length-4 : tie.Need-same-length-4 Inv-loop μ-loop
@@ -107,7 +108,7 @@ returns-2 c =
     let c5 = c .before .before .before .before .before in
     let l = c .before .loop in
     let a = c5 .args in
-    run-spent (a .job) (a .g) (a .budget) (l .count) (l .phase) (flash (l .boot) (l .update) (l .swap)) (c .loop-test .left) ∙ l .inv .2
+    run-spent (a .job) (a .g) (a .budget) (l .count) (l .phase) (flash (l .boot) (l .update) (l .swap)) (omega (arith, c .loop-test .left, l .inv .0)) ∙ l .inv .2
 
 pub repeat-step-spec : {M : Type 1} → statement M
 repeat-step-spec =

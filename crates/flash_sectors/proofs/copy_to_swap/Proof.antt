@@ -1,6 +1,5 @@
-use mathlib.Core.Path.{sym, _∙_}
 use native.Mathlib.Omega.{arith}
-use Rattle.flash_sectors.proofs.Lent.{copy-whole, mid-length, part-read}
+use Rattle.flash_sectors.proofs.Lent.{part-copied}
 use borrow.Author.Needs.{needs}
 use Rattle.flash_sectors.proofs.copy_to_swap.Statement.{statement}
 use Rattle.flash_sectors.proofs.copy_to_swap.Tie as tie
@@ -10,8 +9,7 @@ returns c =
     let o = c .before .before .before .before .before .offset-of in
     let s = c .before .before .before .before .before .before .before .before in
     let a = s .args in
-    copy-whole _ _ (s .pre .2 ∙ sym (mid-length (o .result .0) (a .g .size) (a .partition .now) (omega arith))) (c .before .before .copy .ensures)
-    ∙ part-read (a .g .size) (a .partition .now) (o .ensures .is)
+    part-copied (a .g .size) (a .partition .now) (a .swap .now) (o .ensures .is) (omega arith) (s .pre .2) (c .before .before .copy .ensures)
 
 pub copy-to-swap-spec : {M : Type 1} → statement M
 copy-to-swap-spec =

@@ -1,4 +1,4 @@
-use mathlib.Core.Path.{sym, ap}
+use mathlib.Core.Path.{refl, sym, ap}
 use borrow.Author.Tests.{ne-eqb}
 use Rattle.flash_status.specs.StatusBytes.{bootStatusOf}
 use Rattle.flash_status.proofs.BootStatus.of.Statement.{statement}
@@ -18,7 +18,7 @@ returns-3 c = sym (ap bootStatusOf (c .match .keys3))
 
 returns-4 : tie.Need-returns-4
 unfolding bootStatusOf
-returns-4 c = let r = c .match .rest in simp (ne-eqb _ _ (r .0 .0 .1), ne-eqb _ _ (r .0 .1), ne-eqb _ _ (r .1))
+returns-4 c = let r = c .match .rest in rw (ne-eqb _ _ (r .0 .0 .1), ne-eqb _ _ (r .0 .1), ne-eqb _ _ (r .1)) refl
 
 pub of-spec : {M : Type 1} → statement M
 of-spec = tie.close (tie.spec returns returns-2 returns-3 returns-4)
