@@ -8,6 +8,10 @@
  * with its answer. Where one has another length, the answer is TAINHOSA_OUTSIDE_RULES and no buffer changes; that is the first
  * thing that a call looks at. The refusals of a call are named in the order in which it comes to them. A refusal has a place, in
  * the buffer that the call says; where none is named, here or at the call, the place is 0.
+ *
+ * The archive is for x86-64 with SSE2, and its code uses the red zone below the stack pointer: an interrupt handler on the same
+ * stack must leave these 128 bytes alone. BOOT, UPDATE and SWAP are buffers in memory: a store to them stands for an operation of the
+ * flash, and it is the caller's part that it becomes one.
  */
 #ifndef TAINHOSA_H
 #define TAINHOSA_H
@@ -47,7 +51,7 @@ extern "C" {
 #define TAINHOSA_MAGIC_AT 0
 #define TAINHOSA_FIRMWARE_SIZE_AT 4   /* the firmware's size in bytes, bytes 4 to 7 */
 #define TAINHOSA_FIRST_TAG 8
-#define TAINHOSA_PADDING 0xFF         /* a byte between tags */
+#define TAINHOSA_PADDING 0xFF         /* a byte that stands for nothing, before a tag or the end */
 
 /* The types of its tags. A tag is its type and its length, two bytes each, low byte first, and then its value. */
 #define TAINHOSA_TYPE_END 0x0000      /* the type alone ends the header */
@@ -186,6 +190,8 @@ uint32_t tainhosa_check_image(size_t sectors, size_t size,
  *   Else nothing; the flags are not read.
  * At the end BOOT is checked, but not when the budget is used up before. Where power is lost in between, call it again: it goes on
  * from what the flash shows.
+ * Pass UINT64_MAX as the budget, unless in a test. Three operations move one flag on, and a power-up begins again with the first of
+ * them: with a budget below 3 an exchange may never move on, however often it is called.
  * OK: answer (6) holds the outcome, the count, and the reason of a turning down:
  *   TAINHOSA_RUN: nothing was done; or the update was turned down, and UPDATE's trailer sector is erased, so UPDATE is NEW.
  *   TAINHOSA_RUN_ON_TEST: the firmware sectors of BOOT and UPDATE are exchanged, BOOT is TESTING, UPDATE's trailer sector is erased.
