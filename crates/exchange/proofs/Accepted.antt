@@ -7,16 +7,8 @@ use native.Mathlib.Omega.{arith}
 use lib.Dec.{ltb}
 use borrow.Author.Tests.{lt-ltb, le-ltb}
 use Rattle.numbers.specs.Answer.{Answer, gives, refused, because, noReason, Refusal}
-use Rattle.flash.specs.declared.Geometry.{Geometry}
-use Rattle.flash.specs.Buffers.{Flash, fits}
-use Rattle.flash_status.specs.declared.BootStatus.{BootStatus}
-use Rattle.flash_status.specs.declared.BootStatus.the-variants.{New as BootNew, Testing, Success}
-use Rattle.flash_status.specs.declared.UpdateStatus.{UpdateStatus}
-use Rattle.flash_status.specs.declared.UpdateStatus.the-variants.{New as UpdateNew, Updating}
-use Rattle.flash_flags.specs.declared.Flags.{Flags}
-use Rattle.flash_flags.specs.declared.Flags.the-variants.{AllF}
-use Rattle.flash_status.specs.StatusBytes.{bootStatusAt, updateStatusAt}
-use Rattle.flash_flags.specs.SectorFlags.{flagsAt}
+use Rattle.exchange.specs.Base.{Geometry, BootStatus, BootNew, Testing, Success, UpdateStatus, UpdateNew, Updating, Flags, AllF}
+use Rattle.exchange.specs.Base.{Flash, fits, bootStatusAt, updateStatusAt, flagsAt}
 use Rattle.exchange.specs.declared.Job.the-variants.{Update, Fallback, TurnDown}
 use Rattle.exchange.specs.Decision.{Check, Plan, refuse, plain, work, accept, acceptFallback, decideBy, decideStatuses, decide, Good}
 use Rattle.exchange.specs.Demand.{Exchange, update, fallback, jobOf, Underway, from-new, from-success, from-testing, Starts}

@@ -9,18 +9,8 @@ use lib.ListN.{getD}
 use lib.Dec.{leb, ltb, eqb}
 use borrow.Author.Tests.{eqb-true, lt-leb, le-leb, lt-ltb, le-ltb}
 use Rattle.numbers.specs.Answer.{Answer, gives, refused, noReason, Refusal, numberOf}
-use Rattle.flash.specs.Sizes.{firmware, Limits}
-use Rattle.flash.specs.Buffers.{Flash, Shaped, fits}
-use Rattle.flash_status.specs.declared.BootStatus.{BootStatus}
-use Rattle.flash_status.specs.declared.BootStatus.the-variants.{New as BootNew, Testing, Success}
-use Rattle.flash_status.specs.declared.UpdateStatus.{UpdateStatus}
-use Rattle.flash_status.specs.declared.UpdateStatus.the-variants.{New as UpdateNew, Updating}
-use Rattle.flash_flags.specs.declared.Flag.{Flag}
-use Rattle.flash_flags.specs.declared.FlagRead.the-variants.{Known}
-use Rattle.flash_flags.specs.declared.Flags.{Flags}
-use Rattle.flash_flags.specs.declared.Flags.the-variants.{Malformed, AllF, At, All0}
-use Rattle.flash_status.specs.StatusBytes.{bootStatusAt, updateStatusAt}
-use Rattle.flash_flags.specs.SectorFlags.{moved, flagValue, flagOf, flagByte, half, flagAt, flagsFrom, flags, allF, pastZeros, flagsShown, flagsAt}
+use Rattle.exchange.specs.Base.{BootStatus, BootNew, Testing, Success, UpdateStatus, UpdateNew, Updating, Flag, Known, Flags, Malformed, AllF, At, All0}
+use Rattle.exchange.specs.Base.{firmware, Limits, Flash, Shaped, fits, bootStatusAt, updateStatusAt, moved, flagValue, flagOf, flagByte, half, flagAt, flagsFrom, flags, allF, pastZeros, flagsShown, flagsAt}
 use Rattle.exchange.specs.declared.Next.{Next}
 use Rattle.exchange.specs.declared.Next.the-variants.{Do, Nothing}
 use Rattle.exchange.specs.declared.Job.the-variants.{Update}

@@ -6,19 +6,10 @@ use mathlib.Core.List.{List}
 use Prim.Native.Nat.{ℕ}
 use native.Mathlib.Omega.{arith}
 use Rattle.numbers.specs.Answer.{Answer, gives, refused}
-use Rattle.flash.specs.declared.Geometry.{Geometry}
-use Rattle.flash.specs.Sizes.{firmware, withinLimits}
-use Rattle.flash.specs.Sectors.{sectorNumber, erased}
-use Rattle.flash.specs.Buffers.{Flash, Shaped, partitionFits, fits}
-use Rattle.flash_status.specs.declared.BootStatus.{BootStatus}
-use Rattle.flash_status.specs.declared.BootStatus.the-variants.{New as BootNew, Testing, Success}
-use Rattle.flash_status.specs.declared.UpdateStatus.{UpdateStatus}
-use Rattle.flash_status.specs.declared.UpdateStatus.the-variants.{New as UpdateNew, Updating}
-use Rattle.flash_flags.specs.declared.Leg.the-variants.{BootToUpdate}
-use Rattle.flash_flags.specs.declared.Flags.{Flags}
-use Rattle.flash_flags.specs.declared.Flags.the-variants.{Malformed, AllF, At, All0}
-use Rattle.flash_status.specs.StatusBytes.{statusByte, bootByte, bootStatusOf, bootStatusAt, updateByte, updateStatusOf, updateStatusAt}
-use Rattle.flash_flags.specs.SectorFlags.{flagOf, flagByte, half, flagAt, flagsFrom, flags, allF, pastZeros, flagsShown, flagsAt}
+use Rattle.exchange.specs.Base.{Geometry, BootStatus, BootNew, Testing, Success, UpdateStatus, UpdateNew, Updating, BootToUpdate, Flags, Malformed, AllF, At, All0}
+use Rattle.exchange.specs.Base.{firmware, sectorNumber, erased, Flash, Shaped, fits, statusByte, bootByte, bootStatusOf, bootStatusAt, updateByte, updateStatusOf, updateStatusAt, flagOf, flagByte, half, flagAt, flagsFrom, flags, allF, pastZeros, flagsShown, flagsAt}
+use Rattle.flash.specs.Sizes.{withinLimits}
+use Rattle.flash.specs.Buffers.{partitionFits}
 use Rattle.exchange.specs.declared.Area.the-variants.{Update}
 use Rattle.exchange.specs.declared.Operation.{Operation}
 use Rattle.exchange.specs.declared.Operation.the-variants.{EraseUpdateTrailer, WriteBootStatus, WriteUpdateStatus}

@@ -4,16 +4,8 @@ use mathlib.Core.List.{List}
 use Prim.Native.Nat.{ℕ, zero, suc, _+_, _*_}
 use native.Mathlib.Omega.{arith}
 use Rattle.numbers.specs.Answer.{Answer, noReason}
-use Rattle.flash.specs.declared.Geometry.{Geometry}
-use Rattle.flash.specs.declared.SectorNumber.{SectorNumber}
-use Rattle.flash.specs.Sizes.{Limits}
-use Rattle.flash.specs.Sectors.{sectorNumber}
-use Rattle.flash.specs.Buffers.{Flash, Shaped}
-use Rattle.flash_status.specs.declared.BootStatus.{BootStatus}
-use Rattle.flash_status.specs.declared.UpdateStatus.{UpdateStatus}
-use Rattle.flash_flags.specs.declared.Leg.{Leg}
-use Rattle.flash_flags.specs.declared.Leg.the-variants.{UpdateToSwap, BootToUpdate, SwapToBoot}
-use Rattle.flash_flags.specs.declared.Flags.the-variants.{AllF, At, All0}
+use Rattle.exchange.specs.Base.{Geometry, SectorNumber, BootStatus, UpdateStatus, Leg, UpdateToSwap, BootToUpdate, SwapToBoot, AllF, At, All0}
+use Rattle.exchange.specs.Base.{Limits, sectorNumber, Flash, Shaped}
 use Rattle.exchange.specs.Decision.{Check, work, decideBy, decide}
 use Rattle.exchange.specs.Demand.{Exchange, jobOf, Underway, from-new, from-success, from-testing}
 use Rattle.flash.proofs.Checked.{shaped-fits}

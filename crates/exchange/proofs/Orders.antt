@@ -3,13 +3,8 @@ use mathlib.Core.Path.{_≡_, refl}
 use mathlib.Core.Bool.{true}
 use Prim.Native.Nat.{ℕ}
 use Rattle.numbers.specs.Answer.{gives}
-use Rattle.flash.specs.declared.Geometry.{Geometry}
-use Rattle.flash.specs.Buffers.{Flash, fits}
-use Rattle.flash_status.specs.declared.BootStatus.{BootStatus}
-use Rattle.flash_status.specs.declared.UpdateStatus.{UpdateStatus}
-use Rattle.flash_flags.specs.declared.Flags.{Flags}
-use Rattle.flash_status.specs.StatusBytes.{bootStatusAt, updateStatusAt}
-use Rattle.flash_flags.specs.SectorFlags.{flagsAt}
+use Rattle.exchange.specs.Base.{Geometry, BootStatus, UpdateStatus, Flags}
+use Rattle.exchange.specs.Base.{Flash, fits, bootStatusAt, updateStatusAt, flagsAt}
 use Rattle.exchange.specs.declared.Job.{Job}
 use Rattle.exchange.specs.Order.{ordered, nextOperation}
 use Rattle.exchange.specs.Decision.{Check, decideBy, decide}

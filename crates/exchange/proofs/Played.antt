@@ -7,11 +7,8 @@ use native.Mathlib.Decide.{decLt}
 use native.Mathlib.Omega.{arith}
 use lib.ListN.{length}
 use Rattle.numbers.specs.Answer.{Answer, noReason, numbered}
-use Rattle.flash.specs.declared.Geometry.{Geometry}
-use Rattle.flash.specs.Sizes.{firmware, partitionSize, Limits}
-use Rattle.flash.specs.Buffers.{Flash, Shaped, fits}
-use Rattle.flash_status.specs.declared.BootStatus.{BootStatus}
-use Rattle.flash_status.specs.declared.UpdateStatus.{UpdateStatus}
+use Rattle.exchange.specs.Base.{Geometry, BootStatus, UpdateStatus}
+use Rattle.exchange.specs.Base.{firmware, partitionSize, Limits, Flash, Shaped, fits}
 use Rattle.exchange.specs.declared.Next.{Next}
 use Rattle.exchange.specs.declared.Next.the-variants.{Nothing}
 use Rattle.exchange.specs.declared.Area.the-variants.{Boot, Update}

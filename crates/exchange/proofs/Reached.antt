@@ -5,16 +5,10 @@ use Prim.Native.Nat.{ℕ, zero, suc, _+_, _-_, _*_, _≤_}
 use native.Mathlib.Omega.{arith}
 use lib.ListN.{length}
 use Rattle.numbers.specs.Answer.{gives, noReason, numbered}
-use Rattle.flash.specs.declared.Geometry.{Geometry}
-use Rattle.flash.specs.Sizes.{geometry, withinLimits, firmware, Limits}
-use Rattle.flash.specs.Sectors.{sectorNumber}
-use Rattle.flash.specs.Buffers.{Flash, flash, partitionFits, fits}
-use Rattle.flash_status.specs.declared.BootStatus.{BootStatus}
-use Rattle.flash_status.specs.declared.UpdateStatus.{UpdateStatus}
-use Rattle.flash_flags.specs.declared.Leg.the-variants.{UpdateToSwap}
-use Rattle.flash_flags.specs.declared.Flags.the-variants.{AllF}
-use Rattle.flash_status.specs.StatusBytes.{bootStatusAt, updateStatusAt}
-use Rattle.flash_flags.specs.SectorFlags.{flagsAt}
+use Rattle.exchange.specs.Base.{Geometry, BootStatus, UpdateStatus, UpdateToSwap, AllF}
+use Rattle.exchange.specs.Base.{geometry, firmware, Limits, sectorNumber, Flash, flash, fits, bootStatusAt, updateStatusAt, flagsAt}
+use Rattle.flash.specs.Sizes.{withinLimits}
+use Rattle.flash.specs.Buffers.{partitionFits}
 use Rattle.exchange.specs.declared.Area.the-variants.{Swap}
 use Rattle.exchange.specs.declared.Operation.the-variants.{Erase, Copy}
 use Rattle.exchange.specs.declared.Next.{Next}

@@ -8,20 +8,8 @@ use native.Mathlib.Omega.{arith}
 use lib.ListN.{length, take}
 use lib.Dec.{ltb}
 use Rattle.numbers.specs.Answer.{Answer, gives, refused, Refusal, numbered, inside, numberOf, Reason, noReason, because}
-use Rattle.flash.specs.declared.Geometry.{Geometry}
-use Rattle.flash.specs.declared.SectorNumber.{SectorNumber}
-use Rattle.flash.specs.Sectors.{sectorNumber}
-use Rattle.flash.specs.Buffers.{Flash, Shaped, fits}
-use Rattle.flash_status.specs.declared.BootStatus.{BootStatus}
-use Rattle.flash_status.specs.declared.BootStatus.the-variants.{New as BootNew, Testing, Success}
-use Rattle.flash_status.specs.declared.UpdateStatus.{UpdateStatus}
-use Rattle.flash_status.specs.declared.UpdateStatus.the-variants.{New as UpdateNew, Updating}
-use Rattle.flash_flags.specs.declared.Leg.{Leg}
-use Rattle.flash_flags.specs.declared.Leg.the-variants.{UpdateToSwap}
-use Rattle.flash_flags.specs.declared.Flags.{Flags}
-use Rattle.flash_flags.specs.declared.Flags.the-variants.{Malformed, AllF, At, All0}
-use Rattle.flash_status.specs.StatusBytes.{statusByte, bootStatusOf, bootStatusAt, updateStatusOf, updateStatusAt}
-use Rattle.flash_flags.specs.SectorFlags.{flagsAt}
+use Rattle.exchange.specs.Base.{Geometry, SectorNumber, BootStatus, BootNew, Testing, Success, UpdateStatus, UpdateNew, Updating, Leg, UpdateToSwap, Flags, Malformed, AllF, At, All0}
+use Rattle.exchange.specs.Base.{sectorNumber, Flash, Shaped, fits, statusByte, bootStatusOf, bootStatusAt, updateStatusOf, updateStatusAt, flagsAt}
 use Rattle.exchange.specs.declared.Operation.{Operation}
 use Rattle.exchange.specs.declared.Operation.the-variants.{Erase, EraseUpdateTrailer}
 use Rattle.exchange.specs.declared.Next.{Next}

@@ -4,9 +4,8 @@ use mathlib.Core.Bool.{true}
 use mathlib.Core.List.{List, map}
 use Prim.Native.Nat.{ℕ, _≤_, _<_}
 use native.Mathlib.Omega.{arith}
-use Rattle.flash.specs.declared.Geometry.{Geometry}
-use Rattle.flash.specs.Sizes.{firmware}
-use Rattle.flash.specs.Buffers.{Flash, fits}
+use Rattle.exchange.specs.Base.{Geometry}
+use Rattle.exchange.specs.Base.{firmware, Flash, fits}
 use Rattle.exchange.specs.Decision.{Check}
 use Rattle.exchange.specs.Demand.{Exchange, Finished, InPlace, Ongoing, Event, Left, left, flashAfter, EachSafe, AtFinish, Safe}
 use Rattle.exchange.proofs.Along.{Same, same-after, same-sum, same-along}

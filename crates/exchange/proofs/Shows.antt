@@ -5,14 +5,8 @@ use mathlib.Core.List.{List}
 use Prim.Native.Nat.{ℕ, zero, suc, _+_, _-_, _*_, _≤_, _<_, min}
 use native.Mathlib.Omega.{arith}
 use Rattle.numbers.specs.Answer.{gives}
-use Rattle.flash.specs.declared.Geometry.{Geometry}
-use Rattle.flash.specs.Sizes.{firmware}
-use Rattle.flash.specs.Buffers.{Flash}
-use Rattle.flash_status.specs.declared.BootStatus.{BootStatus}
-use Rattle.flash_status.specs.declared.UpdateStatus.{UpdateStatus}
-use Rattle.flash_flags.specs.declared.Flag.the-variants.{Exchanged}
-use Rattle.flash_status.specs.StatusBytes.{bootStatusAt, updateStatusAt}
-use Rattle.flash_flags.specs.SectorFlags.{moved}
+use Rattle.exchange.specs.Base.{Geometry, BootStatus, UpdateStatus, Exchanged}
+use Rattle.exchange.specs.Base.{firmware, Flash, bootStatusAt, updateStatusAt, moved}
 use Rattle.exchange.specs.Demand.{Exchange, Underway, from-new, from-success, from-testing, Finished, InPlace, flagRank, FlagMovedOn, FlagNotBack, AtFinish}
 use Rattle.flash_flags.proofs.Moves.{legMoves, leg-below}
 use Rattle.exchange.proofs.Stage.{Closing, erase-boot, write-testing, erase-update, write-success, closing, closingLeft, Closed, on-test, fallen-back, Swapped, Stage, in-leg, at-last, at-end}

@@ -6,18 +6,8 @@ use Prim.Native.Nat.{ℕ, suc, _+_, _-_, _*_, _≤_, _<_}
 use native.Mathlib.Decide.{ℕ-discrete, decLt}
 use native.Mathlib.Omega.{arith}
 use lib.ListN.{length}
-use Rattle.flash.specs.declared.Geometry.{Geometry}
-use Rattle.flash.specs.Sizes.{firmware, Limits}
-use Rattle.flash.specs.Sectors.{sectorNumber, erased}
-use Rattle.flash.specs.Buffers.{Flash, Shaped}
-use Rattle.flash_status.specs.declared.BootStatus.{BootStatus}
-use Rattle.flash_flags.specs.declared.Flag.{Flag}
-use Rattle.flash_flags.specs.declared.Flag.the-variants.{Untouched, Exchanged}
-use Rattle.flash_flags.specs.declared.FlagRead.the-variants.{Known}
-use Rattle.flash_flags.specs.declared.Leg.{Leg}
-use Rattle.flash_flags.specs.declared.Leg.the-variants.{UpdateToSwap, BootToUpdate, SwapToBoot}
-use Rattle.flash_status.specs.StatusBytes.{bootByte, bootStatusOf, bootStatusAt, updateStatusOf, updateStatusAt}
-use Rattle.flash_flags.specs.SectorFlags.{moved, flagAt, setFlag}
+use Rattle.exchange.specs.Base.{Geometry, BootStatus, Flag, Untouched, Exchanged, Known, Leg, UpdateToSwap, BootToUpdate, SwapToBoot}
+use Rattle.exchange.specs.Base.{firmware, Limits, sectorNumber, erased, Flash, Shaped, bootByte, bootStatusOf, bootStatusAt, updateStatusOf, updateStatusAt, moved, flagAt, setFlag}
 use Rattle.exchange.specs.declared.Area.{Area}
 use Rattle.exchange.specs.declared.Area.the-variants.{Boot, Update, Swap}
 use Rattle.exchange.specs.declared.Operation.the-variants.{WriteFlag, EraseBootTrailer, EraseUpdateTrailer, WriteBootStatus}

@@ -7,19 +7,8 @@ use native.Mathlib.Decide.{decLt}
 use native.Mathlib.Omega.{arith}
 use lib.ListN.{length}
 use Rattle.numbers.specs.Answer.{gives}
-use Rattle.flash.specs.declared.Geometry.{Geometry}
-use Rattle.flash.specs.Sizes.{firmware, Limits}
-use Rattle.flash.specs.Sectors.{sectorNumber, erased}
-use Rattle.flash.specs.Buffers.{Flash, Shaped}
-use Rattle.flash_status.specs.declared.BootStatus.{BootStatus}
-use Rattle.flash_status.specs.declared.BootStatus.the-variants.{New as BootNew, Testing, Success}
-use Rattle.flash_status.specs.declared.UpdateStatus.{UpdateStatus}
-use Rattle.flash_status.specs.declared.UpdateStatus.the-variants.{New as UpdateNew, Updating}
-use Rattle.flash_flags.specs.declared.Leg.{Leg}
-use Rattle.flash_flags.specs.declared.Leg.the-variants.{UpdateToSwap, BootToUpdate, SwapToBoot}
-use Rattle.flash_flags.specs.declared.Flags.the-variants.{All0}
-use Rattle.flash_status.specs.StatusBytes.{bootStatusAt, updateStatusOf, updateStatusAt}
-use Rattle.flash_flags.specs.SectorFlags.{flagsAt}
+use Rattle.exchange.specs.Base.{Geometry, BootStatus, BootNew, Testing, Success, UpdateStatus, UpdateNew, Updating, Leg, UpdateToSwap, BootToUpdate, SwapToBoot, All0}
+use Rattle.exchange.specs.Base.{firmware, Limits, sectorNumber, erased, Flash, Shaped, bootStatusAt, updateStatusOf, updateStatusAt, flagsAt}
 use Rattle.exchange.specs.declared.Area.the-variants.{Boot, Update as UpdateArea}
 use Rattle.exchange.specs.declared.Operation.{Operation}
 use Rattle.exchange.specs.declared.Operation.the-variants.{Erase, Copy, WriteFlag, EraseBootTrailer, EraseUpdateTrailer, WriteBootStatus}

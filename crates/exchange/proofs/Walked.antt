@@ -3,11 +3,8 @@ use mathlib.Core.Path.{_≡_, refl, sym, subst}
 use mathlib.Core.List.{List}
 use Prim.Native.Nat.{ℕ, zero, suc, _+_, _-_, _≤_, min}
 use native.Mathlib.Omega.{arith}
-use Rattle.flash.specs.declared.Geometry.{Geometry}
-use Rattle.flash.specs.Sizes.{Limits}
-use Rattle.flash.specs.Buffers.{Flash}
-use Rattle.flash_status.specs.declared.BootStatus.{BootStatus}
-use Rattle.flash_status.specs.declared.UpdateStatus.{UpdateStatus}
+use Rattle.exchange.specs.Base.{Geometry, BootStatus, UpdateStatus}
+use Rattle.exchange.specs.Base.{Limits, Flash}
 use Rattle.exchange.specs.declared.Operation.{Operation}
 use Rattle.exchange.specs.declared.Next.the-variants.{Nothing}
 use Rattle.exchange.specs.Operations.{perform, phaseAfter}

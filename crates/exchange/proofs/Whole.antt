@@ -7,21 +7,8 @@ use native.Mathlib.Decide.{decLt}
 use native.Mathlib.Omega.{arith}
 use lib.ListN.{length}
 use Rattle.numbers.specs.Answer.{gives, noReason}
-use Rattle.flash.specs.declared.Geometry.{Geometry}
-use Rattle.flash.specs.Sizes.{firmware, partitionSize, Limits}
-use Rattle.flash.specs.Buffers.{Flash, Shaped, fits}
-use Rattle.flash_status.specs.declared.BootStatus.{BootStatus}
-use Rattle.flash_status.specs.declared.BootStatus.the-variants.{Testing}
-use Rattle.flash_status.specs.declared.UpdateStatus.{UpdateStatus}
-use Rattle.flash_status.specs.declared.UpdateStatus.the-variants.{Updating}
-use Rattle.flash_flags.specs.declared.Flag.{Flag}
-use Rattle.flash_flags.specs.declared.Flag.the-variants.{Untouched, Exchanged}
-use Rattle.flash_flags.specs.declared.FlagRead.the-variants.{Known}
-use Rattle.flash_flags.specs.declared.Leg.{Leg}
-use Rattle.flash_flags.specs.declared.Leg.the-variants.{UpdateToSwap, BootToUpdate, SwapToBoot}
-use Rattle.flash_flags.specs.declared.Flags.the-variants.{AllF}
-use Rattle.flash_status.specs.StatusBytes.{bootStatusAt, updateStatusAt}
-use Rattle.flash_flags.specs.SectorFlags.{moved, flagsAt}
+use Rattle.exchange.specs.Base.{Geometry, BootStatus, Testing, UpdateStatus, Updating, Flag, Untouched, Exchanged, Known, Leg, UpdateToSwap, BootToUpdate, SwapToBoot, AllF}
+use Rattle.exchange.specs.Base.{firmware, partitionSize, Limits, Flash, Shaped, fits, bootStatusAt, updateStatusAt, moved, flagsAt}
 use Rattle.exchange.specs.declared.Area.{Area}
 use Rattle.exchange.specs.Operations.{get, oldBootIn, oldUpdateIn}
 use Rattle.exchange.specs.Decision.{Check, Good, work, decide}

@@ -8,16 +8,8 @@ use Prim.Native.Nat.{ℕ, _<_}
 use lib.ListN.{getD}
 use Rattle.numbers.specs.Answer.{gives, Refusal, numbered, numberOf}
 use Rattle.numbers.specs.Every.{Every}
-use Rattle.flash.specs.declared.Geometry.{Geometry}
-use Rattle.flash.specs.Sizes.{geometry}
-use Rattle.flash.specs.Buffers.{Flash, fits}
-use Rattle.flash_status.specs.declared.BootStatus.{BootStatus}
-use Rattle.flash_status.specs.declared.BootStatus.the-variants.{Testing, Success}
-use Rattle.flash_status.specs.declared.UpdateStatus.{UpdateStatus}
-use Rattle.flash_status.specs.declared.UpdateStatus.the-variants.{New, Updating}
-use Rattle.flash_flags.specs.declared.Flags.the-variants.{AllF}
-use Rattle.flash_status.specs.StatusBytes.{bootStatusAt, updateStatusAt}
-use Rattle.flash_flags.specs.SectorFlags.{flagsAt}
+use Rattle.exchange.specs.Base.{Geometry, BootStatus, Testing, Success, UpdateStatus, UpdateNew as New, Updating, AllF}
+use Rattle.exchange.specs.Base.{geometry, Flash, fits, bootStatusAt, updateStatusAt, flagsAt}
 use Rattle.exchange.specs.Decision.{Check}
 use Rattle.exchange.specs.PowerUp.{Outcome, refusal, cut, runsOnTest, runsFallenBack, powerUp}
 use Rattle.exchange.specs.Along.{stateAfter}

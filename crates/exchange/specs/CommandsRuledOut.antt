@@ -7,17 +7,8 @@ use mathlib.Core.List.{[], _∷_, _++_}
 use Prim.Native.Nat.{ℕ}
 use lib.ListN.{replicate}
 use Rattle.numbers.specs.Answer.{gives, refused}
-use Rattle.flash.specs.declared.Geometry.{Geometry}
-use Rattle.flash.specs.Sectors.{sectorNumber}
-use Rattle.flash.specs.Buffers.{Flash, flash, fits}
-use Rattle.flash_status.specs.declared.BootStatus.{BootStatus}
-use Rattle.flash_status.specs.declared.BootStatus.the-variants.{New as BootNew, Testing, Success}
-use Rattle.flash_status.specs.declared.UpdateStatus.{UpdateStatus}
-use Rattle.flash_status.specs.declared.UpdateStatus.the-variants.{New as UpdateNew, Updating}
-use Rattle.flash_flags.specs.declared.Leg.the-variants.{BootToUpdate}
-use Rattle.flash_flags.specs.declared.Flags.{Flags}
-use Rattle.flash_flags.specs.declared.Flags.the-variants.{Malformed, AllF, At}
-use Rattle.flash_status.specs.StatusBytes.{bootStatusAt, updateStatusAt}
+use Rattle.exchange.specs.Base.{Geometry, BootStatus, BootNew, Testing, Success, UpdateStatus, UpdateNew, Updating, BootToUpdate, Flags, Malformed, AllF, At}
+use Rattle.exchange.specs.Base.{sectorNumber, Flash, flash, fits, bootStatusAt, updateStatusAt}
 use Rattle.exchange.specs.declared.Operation.the-variants.{EraseUpdateTrailer, WriteBootStatus, WriteUpdateStatus}
 use Rattle.exchange.specs.Operations.{perform}
 use Rattle.exchange.specs.Commands.{Command, armCommand, confirmCommand}

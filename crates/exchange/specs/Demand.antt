@@ -6,21 +6,8 @@ use mathlib.Core.List.{List}
 use Prim.Native.Nat.{ℕ, _+_, _-_, _*_, _≤_, _<_}
 use lib.ListN.{length}
 use Rattle.numbers.specs.Answer.{gives, numbered, Reason, noReason}
-use Rattle.flash.specs.declared.Geometry.{Geometry}
-use Rattle.flash.specs.Sizes.{firmware, partitionSize}
-use Rattle.flash.specs.Sectors.{firmwareOf, erased}
-use Rattle.flash.specs.Buffers.{Flash, fits}
-use Rattle.flash_status.specs.declared.BootStatus.{BootStatus}
-use Rattle.flash_status.specs.declared.BootStatus.the-variants.{New as BootNew, Testing, Success}
-use Rattle.flash_status.specs.declared.UpdateStatus.{UpdateStatus}
-use Rattle.flash_status.specs.declared.UpdateStatus.the-variants.{New as UpdateNew, Updating}
-use Rattle.flash_flags.specs.declared.Flag.{Flag}
-use Rattle.flash_flags.specs.declared.Flag.the-variants.{Untouched, Saved, Moved, Exchanged}
-use Rattle.flash_flags.specs.declared.FlagRead.the-variants.{Known}
-use Rattle.flash_flags.specs.declared.Flags.{Flags}
-use Rattle.flash_flags.specs.declared.Flags.the-variants.{AllF, All0}
-use Rattle.flash_status.specs.StatusBytes.{bootStatusAt, updateStatusAt}
-use Rattle.flash_flags.specs.SectorFlags.{moved, flagAt, flagsAt}
+use Rattle.exchange.specs.Base.{Geometry, BootStatus, BootNew, Testing, Success, UpdateStatus, UpdateNew, Updating, Flag, Untouched, Saved, Moved, Exchanged, Known, Flags, AllF, All0}
+use Rattle.exchange.specs.Base.{firmware, partitionSize, firmwareOf, erased, Flash, fits, bootStatusAt, updateStatusAt, moved, flagAt, flagsAt}
 use Rattle.exchange.specs.declared.Area.the-variants.{Boot, Update}
 use Rattle.exchange.specs.declared.Job.{Job}
 use Rattle.exchange.specs.declared.Job.the-variants.{Update as UpdateJob, Fallback as FallbackJob}

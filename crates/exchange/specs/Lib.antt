@@ -1,4 +1,5 @@
 -- Document 01, "Power-up", in its order: the operations, the order in which they come, the checks before them, power-up, arm and confirm.
+pub mod Base
 pub mod Operations
 pub mod Order
 pub mod Decision

@@ -3,11 +3,8 @@ use mathlib.Core.Bool.{Bool, cond}
 use mathlib.Core.List.{List, [], _∷_}
 use Prim.Native.Nat.{ℕ, zero, suc}
 use Rattle.numbers.specs.Answer.{Answer, gives, refused}
-use Rattle.flash.specs.declared.Geometry.{Geometry}
-use Rattle.flash.specs.Buffers.{Flash}
-use Rattle.flash_status.specs.declared.BootStatus.the-variants.{Success}
-use Rattle.flash_status.specs.declared.UpdateStatus.the-variants.{Updating}
-use Rattle.flash_flags.specs.SectorFlags.{flagsAt}
+use Rattle.exchange.specs.Base.{Geometry, Success, Updating}
+use Rattle.exchange.specs.Base.{Flash, flagsAt}
 use Rattle.exchange.specs.declared.Operation.{Operation}
 use Rattle.exchange.specs.declared.Operation.the-variants.{Erase, Copy, WriteFlag, EraseBootTrailer, EraseUpdateTrailer, WriteBootStatus, WriteUpdateStatus}
 use Rattle.exchange.specs.declared.Next.{Next}

@@ -1,17 +1,8 @@
 -- Document 01, "Power-up": the single operations, what each does to the three buffers, and the two tables.
 use mathlib.Core.List.{List, [], _∷_}
 use Prim.Native.Nat.{ℕ, zero, suc}
-use Rattle.flash.specs.declared.Geometry.{Geometry}
-use Rattle.flash.specs.declared.SectorNumber.{SectorNumber}
-use Rattle.flash.specs.Sizes.{firmware}
-use Rattle.flash.specs.Sectors.{sectorOf, writeSector, erased}
-use Rattle.flash.specs.Buffers.{Flash, flash}
-use Rattle.flash_flags.specs.declared.Flag.{Flag}
-use Rattle.flash_flags.specs.declared.Flag.the-variants.{Untouched, Saved, Moved, Exchanged}
-use Rattle.flash_flags.specs.declared.Leg.{Leg}
-use Rattle.flash_flags.specs.declared.Leg.the-variants.{UpdateToSwap, BootToUpdate, SwapToBoot}
-use Rattle.flash_status.specs.StatusBytes.{setBootStatus, setUpdateStatus}
-use Rattle.flash_flags.specs.SectorFlags.{setFlag}
+use Rattle.exchange.specs.Base.{Geometry, SectorNumber, Flag, Untouched, Saved, Moved, Exchanged, Leg, UpdateToSwap, BootToUpdate, SwapToBoot}
+use Rattle.exchange.specs.Base.{firmware, sectorOf, writeSector, erased, Flash, flash, setBootStatus, setUpdateStatus, setFlag}
 use Rattle.exchange.specs.declared.Area.{Area}
 use Rattle.exchange.specs.declared.Area.the-variants.{Boot, Update, Swap}
 use Rattle.exchange.specs.declared.Operation.{Operation}

@@ -2,18 +2,8 @@
 use mathlib.Core.List.{List, [], _∷_}
 use Prim.Native.Nat.{ℕ, zero, suc}
 use Rattle.numbers.specs.Answer.{Answer, gives, refused}
-use Rattle.flash.specs.declared.Geometry.{Geometry}
-use Rattle.flash.specs.Sectors.{sectorNumber}
-use Rattle.flash.specs.Buffers.{Flash}
-use Rattle.flash_status.specs.declared.BootStatus.{BootStatus}
-use Rattle.flash_status.specs.declared.BootStatus.the-variants.{New as BootNew, Testing, Success}
-use Rattle.flash_status.specs.declared.UpdateStatus.{UpdateStatus}
-use Rattle.flash_status.specs.declared.UpdateStatus.the-variants.{New as UpdateNew, Updating}
-use Rattle.flash_flags.specs.declared.Flags.{Flags}
-use Rattle.flash_flags.specs.declared.Flags.the-variants.{Malformed, AllF, At, All0}
-use Rattle.flash_flags.specs.declared.Leg.the-variants.{UpdateToSwap}
-use Rattle.flash_status.specs.StatusBytes.{bootStatusAt, updateStatusAt}
-use Rattle.flash_flags.specs.SectorFlags.{flagsAt}
+use Rattle.exchange.specs.Base.{Geometry, BootStatus, BootNew, Testing, Success, UpdateStatus, UpdateNew, Updating, Flags, Malformed, AllF, At, All0, UpdateToSwap}
+use Rattle.exchange.specs.Base.{sectorNumber, Flash, bootStatusAt, updateStatusAt, flagsAt}
 use Rattle.exchange.specs.declared.Operation.{Operation}
 use Rattle.exchange.specs.declared.Operation.the-variants.{EraseBootTrailer, EraseUpdateTrailer, WriteBootStatus}
 use Rattle.exchange.specs.declared.Next.{Next}

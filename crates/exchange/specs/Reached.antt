@@ -5,11 +5,8 @@ use mathlib.Core.List.{List, [], _∷_}
 use Prim.Native.Nat.{ℕ, _+_, _*_, _≤_}
 use lib.ListN.{length}
 use Rattle.numbers.specs.Answer.{numbered}
-use Rattle.flash.specs.declared.Geometry.{Geometry}
-use Rattle.flash.specs.Sizes.{geometry, firmware}
-use Rattle.flash.specs.Sectors.{sectorNumber}
-use Rattle.flash.specs.Buffers.{Flash}
-use Rattle.flash_flags.specs.declared.Leg.the-variants.{UpdateToSwap}
+use Rattle.exchange.specs.Base.{Geometry, UpdateToSwap}
+use Rattle.exchange.specs.Base.{geometry, firmware, sectorNumber, Flash}
 use Rattle.exchange.specs.declared.Operation.the-variants.{Copy}
 use Rattle.exchange.specs.declared.Next.the-variants.{Do}
 use Rattle.exchange.specs.Decision.{Check}

@@ -5,20 +5,8 @@ use mathlib.Core.Bool.{true, false}
 use Prim.Native.Nat.{ℕ, _≤_, _<_}
 use lib.ListN.{length, take}
 use Rattle.numbers.specs.Answer.{Answer, gives, refused, Refusal, numbered, inside, numberOf, noReason, because}
-use Rattle.flash.specs.declared.Geometry.{Geometry}
-use Rattle.flash.specs.declared.SectorNumber.{SectorNumber}
-use Rattle.flash.specs.Sectors.{sectorNumber}
-use Rattle.flash.specs.Buffers.{Flash, fits}
-use Rattle.flash_status.specs.declared.BootStatus.{BootStatus}
-use Rattle.flash_status.specs.declared.BootStatus.the-variants.{Testing}
-use Rattle.flash_status.specs.declared.UpdateStatus.{UpdateStatus}
-use Rattle.flash_status.specs.declared.UpdateStatus.the-variants.{New as UpdateNew, Updating}
-use Rattle.flash_flags.specs.declared.Leg.{Leg}
-use Rattle.flash_flags.specs.declared.Leg.the-variants.{UpdateToSwap}
-use Rattle.flash_flags.specs.declared.Flags.{Flags}
-use Rattle.flash_flags.specs.declared.Flags.the-variants.{Malformed, AllF, At, All0}
-use Rattle.flash_status.specs.StatusBytes.{bootStatusAt, updateStatusAt}
-use Rattle.flash_flags.specs.SectorFlags.{flagsAt}
+use Rattle.exchange.specs.Base.{Geometry, SectorNumber, BootStatus, Testing, UpdateStatus, UpdateNew, Updating, Leg, UpdateToSwap, Flags, Malformed, AllF, At, All0}
+use Rattle.exchange.specs.Base.{sectorNumber, Flash, fits, bootStatusAt, updateStatusAt, flagsAt}
 use Rattle.exchange.specs.declared.Operation.the-variants.{Erase, EraseUpdateTrailer}
 use Rattle.exchange.specs.declared.Job.the-variants.{Update}
 use Rattle.exchange.specs.Operations.{target, perform, performAll}
