@@ -7,6 +7,7 @@ pub mod Seen
 -- demand 3, from the bottom up: what holds after each move of the flags; where an exchange stands, and its single step; a run of steps;
 -- what a stage shows; what the checks decided at the start, and decide at each stage; one power-up; every list of them
 pub mod Sound
+pub mod Touches
 pub mod Stage
 pub mod Walked
 pub mod Shows

@@ -1,8 +1,8 @@
 -- What the rules rule out.
-use mathlib.Core.Path.{_≡_, refl, sym, ap, _∙_, subst}
+use mathlib.Core.Path.{_≡_, refl, sym, ap, _∙_, subst, ap₂}
 use mathlib.Core.Logic.{_≢_, _⊎_, inl, inr}
 use mathlib.Core.Bool.{Bool, true, false, cond}
-use mathlib.Core.List.{List, [], _∷_}
+use mathlib.Core.List.{List, [], _∷_, _++_}
 use Prim.Native.Nat.{ℕ, zero, suc, _≤_}
 use native.Mathlib.Omega.{arith}
 use lib.ListN.{length, take}
@@ -18,15 +18,15 @@ use Rattle.exchange.specs.declared.Job.{Job}
 use Rattle.exchange.specs.declared.Job.the-variants.{Update, Fallback, TurnDown}
 use Rattle.exchange.specs.Operations.{target, perform, performAll}
 use Rattle.exchange.specs.Order.{nextOperation, Run, stopped, oneMore, run}
-use Rattle.exchange.specs.Decision.{Check, Good, Plan, refuse, plain, work, accept, decideUpdate, decideFallback, decideClosing, decideBy, decideStatuses, decideWithin, decide}
-use Rattle.exchange.specs.PowerUp.{Outcome, refusal, cut, runs, runsOnTest, runsFallenBack, PowerUp, ifBootGood, doneOutcome, outcomeBy, idle, carryOut, powerUp, operationsIn, operationsOf}
+use Rattle.exchange.specs.Decision.{Check, Good, Plan, refuse, plain, work, accept, acceptFallback, decideUpdate, decideFallback, decideClosing, decideBy, decideStatuses, decideWithin, decide}
+use Rattle.exchange.specs.PowerUp.{Outcome, refusal, cut, runs, runsOnTest, runsFallenBack, PowerUp, ifBootGood, doneOutcome, outcomeBy, idle, carryOut, powerUp, operationsIn, operationsOf, nextIn, nextAfter}
 use Rattle.exchange.specs.Demand.{Exchange, update, fallback, jobOf, Starts, Underway, from-new, from-success, from-testing}
-use Rattle.exchange.specs.RuledOut.{Reads, StatusBad, inBoot, inUpdate, IsRun, BadBoot, badBoot, TurnedDown, BeforeWork, outsideRules, statusNotAllowed, flagsNotWellFormed, noGoodFallback, RefusedBefore, RuledOut}
+use Rattle.exchange.specs.RuledOut.{Reads, StatusBad, inBoot, inUpdate, IsRun, ToldOf, onTest, fallenBack, asPlain, asList, BadBoot, badBoot, TurnedDown, BeforeWork, outsideRules, statusNotAllowed, flagsNotWellFormed, noGoodFallback, RefusedBefore, RuledOut}
 use Rattle.flash.proofs.Checked.{shaped-of}
 use Rattle.flash_status.proofs.Ten.{boot-refused, update-refused}
 use Rattle.flash_flags.proofs.Laws.{update-erased}
 use Rattle.exchange.proofs.Orders.{next-by-reads, decide-by-reads}
-use Rattle.exchange.proofs.Runs.{run-none, run-some, run-count, run-flash, operations-first, run-within, power-up-works}
+use Rattle.exchange.proofs.Runs.{run-none, run-some, run-count, run-flash, operations-first, operations-next, run-within, power-up-works}
 use Rattle.exchange.proofs.Accepted.{Images, Accepted, begun, not-newer, accepted}
 use Rattle.exchange.proofs.Decided.{resumed}
 
@@ -173,6 +173,67 @@ performs check g f budget = carried-performs check g f budget (decide check g f)
 first-ones : (check : Check) (g : Geometry) (f : Flash) (k budget : ℕ) → k ≤ budget → operationsOf check g f k ≡ take k (operationsOf check g f budget)
 unfolding operationsOf
 first-ones check g f k budget h = first-in g f k budget (decide check g f) h
+
+next-in-list : (g : Geometry) (f : Flash) (k : ℕ) (y : Plan) → operationsIn g f (suc k) y ≡ operationsIn g f k y ++ asList (nextIn g f k y)
+next-in-list g f k (refuse r) = refl
+next-in-list g f k plain = refl
+next-in-list g f k (work job why) = operations-next job g k 0 f
+
+next-one : (check : Check) (g : Geometry) (f : Flash) (k : ℕ) → operationsOf check g f (suc k) ≡ operationsOf check g f k ++ asList (nextAfter check g f k)
+unfolding operationsOf nextAfter
+next-one check g f k = next-in-list g f k (decide check g f)
+
+-- ---- a job, left or done
+
+module _ (check : Check) (g : Geometry) (f : Flash) (budget : ℕ) (job : Job) (why : Reason) (e : decide check g f ≡ work job why) where
+  next-of : nextAfter check g f budget ≡ nextOperation job g ((run job g budget 0 f) .phase) ((run job g budget 0 f) .flash)
+  unfolding nextAfter
+  next-of = ap (nextIn g f budget) e
+
+  -- the outcome, by what is next and by the check of BOOT
+  told : (n : Next) (y : Answer ℕ) → nextAfter check g f budget ≡ n → check g ((powerUp check g f budget) .flash .boot) ≡ y
+      → (powerUp check g f budget) .outcome ≡ outcomeBy n job y
+  told n y en ey =
+      let w = power-up-works check g f budget job why e in
+      ap (λ (a : PowerUp). a .outcome) w
+      ∙ ap₂ (λ (m : Next) (z : Answer ℕ). outcomeBy m job z) (sym next-of ∙ en) (sym (ap (λ (a : PowerUp). check g (a .flash .boot)) w) ∙ ey)
+
+  left-is-cut : (o : Operation) → nextAfter check g f budget ≡ Do o → (powerUp check g f budget) .outcome ≡ cut
+  left-is-cut o en = told (Do o) _ en refl
+
+  done-bad : (n p : ℕ) → nextAfter check g f budget ≡ Nothing → check g ((powerUp check g f budget) .flash .boot) ≡ refused n p
+      → (powerUp check g f budget) .outcome ≡ refusal (inside 12 n p)
+  done-bad n p en ey = told Nothing (refused n p) en ey
+
+  done-good : (v : ℕ) → nextAfter check g f budget ≡ Nothing → check g ((powerUp check g f budget) .flash .boot) ≡ gives v
+      → ToldOf job ((powerUp check g f budget) .outcome)
+  done-good v en ey = subst (ToldOf job) (sym (told Nothing (gives v) en ey)) (by job)
+    where
+      by : (j : Job) → ToldOf j (outcomeBy Nothing j (gives v))
+      by Update = onTest
+      by Fallback = fallenBack
+      by TurnDown = asPlain
+
+-- ---- a bad image with all flags F
+
+accept-over-bad : (y z : Answer ℕ) (v n p : ℕ) → y ≡ gives v → z ≡ refused n p → accept y z ≡ refuse (inside 12 n p)
+accept-over-bad y z v n p e k = rw (e, k) refl
+
+fallback-to-bad : (y : Answer ℕ) (n p : ℕ) → y ≡ refused n p → acceptFallback y ≡ refuse (inside 13 n p)
+fallback-to-bad y n p e = rw e refl
+
+bad-boot-stays : (check : Check) (g : Geometry) (f : Flash) (b : BootStatus) (v n p budget : ℕ) → Underway update b Updating → Reads g f b Updating AllF
+    → check g (f .update) ≡ gives v → check g (f .boot) ≡ refused n p → powerUp check g f budget ≡ idle (refusal (inside 12 n p)) f
+unfolding powerUp
+bad-boot-stays check g f b v n p budget w r e k =
+    ap (carryOut check g f budget)
+    (reads-decide check g f b Updating AllF r ∙ all-F b (check g (f .update)) (check g (f .boot)) w ∙ accept-over-bad (check g (f .update)) (check g (f .boot)) v n p e k)
+
+no-fallback : (check : Check) (g : Geometry) (f : Flash) (n p budget : ℕ) → Reads g f Testing UpdateNew AllF → check g (f .update) ≡ refused n p
+    → powerUp check g f budget ≡ idle (refusal (inside 13 n p)) f
+unfolding powerUp
+no-fallback check g f n p budget r e =
+    ap (carryOut check g f budget) (reads-decide check g f Testing UpdateNew AllF r ∙ fallback-to-bad (check g (f .update)) n p e)
 
 -- ---- what is run is good
 
@@ -473,6 +534,12 @@ ruled-out = record {
   counted = counts;
   performed = performs;
   firstOnes = first-ones;
+  nextOne = next-one;
+  badBootStays = bad-boot-stays;
+  noFallback = no-fallback;
+  leftIsCut = λ check g f budget job why o e en. left-is-cut check g f budget job why e o en;
+  doneBad = λ check g f budget n p job why e en ey. done-bad check g f budget job why e n p en ey;
+  doneGood = λ check g f budget v job why e en ey. done-good check g f budget job why e v en ey;
   runsGood = what-runs;
   reasonErases = reason-erases;
   closingOnly = λ check g f v budget r h. eleven check g f budget (reads-decide check g f Testing Updating v r ∙ not-closing v h);

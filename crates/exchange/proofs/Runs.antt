@@ -1,6 +1,6 @@
 -- Laws of a run of steps, for every job: nothing is next, one more step, two runs one after the other; and the power-up that runs them.
 use mathlib.Core.Path.{_≡_, refl, sym, ap, _∙_}
-use mathlib.Core.List.{List, [], _∷_}
+use mathlib.Core.List.{List, [], _∷_, _++_}
 use Prim.Native.Nat.{ℕ, zero, suc, _+_, _≤_}
 use native.Mathlib.Omega.{arith}
 use lib.ListN.{length, take}
@@ -15,6 +15,7 @@ use Rattle.exchange.specs.Operations.{perform, performAll, phaseAfter}
 use Rattle.exchange.specs.Order.{nextOperation, performNext, step, Run, stopped, oneMore, run, operations}
 use Rattle.exchange.specs.Decision.{Check, work, decide}
 use Rattle.exchange.specs.PowerUp.{worked, powerUp}
+use Rattle.exchange.specs.RuledOut.{asList}
 
 -- the step does what is next
 step-does : (job : Job) (g : Geometry) (p : ℕ) (f : Flash) (o : Operation) → nextOperation job g p f ≡ Do o → (step job g p f) .flash ≡ perform g o f
@@ -77,6 +78,31 @@ operations-first job g (suc k) (suc n) p f h =
         → operations job g (suc k) p f ≡ take (suc k) (operations job g (suc n) p f)
     by Nothing e ih = rw (operations-none job g (suc k) p f e, operations-none job g (suc n) p f e)
     by (Do o) e ih = rw (operations-some job g k p f o e, operations-some job g n p f o e) (ap (λ (os : List Operation). o ∷ os) (ih o))
+
+-- one step more does what is next
+pub operations-next : (job : Job) (g : Geometry) (k p : ℕ) (f : Flash)
+    → operations job g (suc k) p f ≡ operations job g k p f ++ asList (nextOperation job g ((run job g k p f) .phase) ((run job g k p f) .flash))
+unfolding run operations
+operations-next job g zero p f = by (nextOperation job g p f) refl
+  where
+    by : (n : Next) → nextOperation job g p f ≡ n → operations job g 1 p f ≡ asList (nextOperation job g p f)
+    by Nothing e = operations-none job g 1 p f e ∙ sym (ap asList e)
+    by (Do o) e = operations-some job g 0 p f o e ∙ sym (ap asList e)
+operations-next job g (suc k) p f = by (nextOperation job g p f) refl (λ o. operations-next job g k (phaseAfter o) (perform g o f))
+  where
+    goal : Type 0
+    goal = operations job g (suc (suc k)) p f
+        ≡ operations job g (suc k) p f ++ asList (nextOperation job g ((run job g (suc k) p f) .phase) ((run job g (suc k) p f) .flash))
+
+    by : (n : Next) → nextOperation job g p f ≡ n
+        → ((o : Operation) → operations job g (suc k) (phaseAfter o) (perform g o f)
+        ≡ operations job g k (phaseAfter o) (perform g o f)
+        ++ asList (nextOperation job g ((run job g k (phaseAfter o) (perform g o f)) .phase) ((run job g k (phaseAfter o) (perform g o f)) .flash)))
+        → goal
+    by Nothing e ih = rw (operations-none job g (suc (suc k)) p f e, operations-none job g (suc k) p f e, run-none job g (suc k) p f e, e) refl
+    by (Do o) e ih =
+        rw (operations-some job g (suc k) p f o e, operations-some job g k p f o e, run-some job g k p f o e)
+        (ap (λ (os : List Operation). o ∷ os) (ih o))
 
 -- ---- how many
 

@@ -8,6 +8,7 @@ pub mod Commands
 -- What is claimed of them: power lost in an operation, lists of calls, demand 3, what the rules rule out, the marked cases 1 to 6, what the
 -- rules of arm and confirm rule out.
 pub mod LostPower
+pub mod Touches
 pub mod Along
 pub mod Demand
 pub mod Reached

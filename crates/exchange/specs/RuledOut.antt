@@ -2,16 +2,21 @@
 use mathlib.Core.Path.{_≡_}
 use mathlib.Core.Logic.{_≢_, _⊎_}
 use mathlib.Core.Bool.{true, false}
-use Prim.Native.Nat.{ℕ, _≤_, _<_}
+use mathlib.Core.List.{List, [], _∷_, _++_}
+use Prim.Native.Nat.{ℕ, suc, _≤_, _<_}
 use lib.ListN.{length, take}
-use Rattle.numbers.specs.Answer.{Answer, gives, refused, Refusal, numbered, inside, numberOf, noReason, because}
+use Rattle.numbers.specs.Answer.{Answer, gives, refused, Refusal, numbered, inside, numberOf, Reason, noReason, because}
 use Rattle.exchange.specs.Base.{Geometry, SectorNumber, BootStatus, Testing, UpdateStatus, UpdateNew, Updating, Leg, UpdateToSwap, Flags, Malformed, AllF, At, All0}
 use Rattle.exchange.specs.Base.{sectorNumber, Flash, fits, bootStatusAt, updateStatusAt, flagsAt}
+use Rattle.exchange.specs.declared.Operation.{Operation}
 use Rattle.exchange.specs.declared.Operation.the-variants.{Erase, EraseUpdateTrailer}
-use Rattle.exchange.specs.declared.Job.the-variants.{Update}
+use Rattle.exchange.specs.declared.Next.{Next}
+use Rattle.exchange.specs.declared.Next.the-variants.{Do, Nothing}
+use Rattle.exchange.specs.declared.Job.{Job}
+use Rattle.exchange.specs.declared.Job.the-variants.{Update, Fallback, TurnDown}
 use Rattle.exchange.specs.Operations.{target, perform, performAll}
 use Rattle.exchange.specs.Decision.{Check, Good, work, decide}
-use Rattle.exchange.specs.PowerUp.{Outcome, refusal, cut, runs, runsOnTest, runsFallenBack, PowerUp, ifBootGood, idle, powerUp, operationsOf}
+use Rattle.exchange.specs.PowerUp.{Outcome, refusal, cut, runs, runsOnTest, runsFallenBack, PowerUp, ifBootGood, idle, powerUp, operationsOf, nextAfter}
 use Rattle.exchange.specs.Demand.{Exchange, update, fallback, Underway, Starts}
 
 -- What is read of a flash of the right lengths: BOOT's and UPDATE's status, and what the flags show.
@@ -45,6 +50,17 @@ IsRun runsFallenBack = Unit {0}
 -- 12, with the own number and place of an image that is bad.
 pub data BadBoot (boot : Answer ℕ) : Refusal → Type 0 where
   badBoot : (n p : ℕ) → boot ≡ refused n p → BadBoot boot (inside 12 n p)
+
+-- An outcome that is told when a job is done and BOOT's image is good: "run on test", "run, fallen back"; after a turning down as Plain.
+pub data ToldOf : Job → Outcome → Type 0 where
+  onTest : ToldOf Update runsOnTest
+  fallenBack : ToldOf Fallback runsFallenBack
+  asPlain : ToldOf TurnDown runs
+
+-- None, or the one operation that is next.
+abbrev pub asList : Next → List Operation
+asList Nothing = []
+asList (Do o) = o ∷ []
 
 -- Turned down: one operation, which erases the UPDATE trailer sector.
 pub record TurnedDown (g : Geometry) (f : Flash) (a : PowerUp) : Type 0 where
@@ -94,6 +110,22 @@ pub record RuledOut : Type 0 where
   pub counted : (check : Check) (g : Geometry) (f : Flash) (budget : ℕ) → (powerUp check g f budget) .count ≡ length (operationsOf check g f budget)
   pub performed : (check : Check) (g : Geometry) (f : Flash) (budget : ℕ) → (powerUp check g f budget) .flash ≡ performAll g (operationsOf check g f budget) f
   pub firstOnes : (check : Check) (g : Geometry) (f : Flash) (k budget : ℕ) → k ≤ budget → operationsOf check g f k ≡ take k (operationsOf check g f budget)
+  -- the call's next operation after its first k, which a loss of power may tear, is the one that a budget of k + 1 does besides
+  pub nextOne : (check : Check) (g : Geometry) (f : Flash) (k : ℕ) → operationsOf check g f (suc k) ≡ operationsOf check g f k ++ asList (nextAfter check g f k)
+  -- an update with all flags F over a bad BOOT is 12, and stays armed; a fallback with all flags F to a bad UPDATE is 13
+  pub badBootStays : (check : Check) (g : Geometry) (f : Flash) (b : BootStatus) (v n p budget : ℕ) → Underway update b Updating → Reads g f b Updating AllF
+      → check g (f .update) ≡ gives v → check g (f .boot) ≡ refused n p → powerUp check g f budget ≡ idle (refusal (inside 12 n p)) f
+  pub noFallback : (check : Check) (g : Geometry) (f : Flash) (n p budget : ℕ) → Reads g f Testing UpdateNew AllF → check g (f .update) ≡ refused n p
+      → powerUp check g f budget ≡ idle (refusal (inside 13 n p)) f
+  -- a job with an operation left is "cut"; done, BOOT is checked: bad is 12, good is what is told of the job
+  pub leftIsCut : (check : Check) (g : Geometry) (f : Flash) (budget : ℕ) (job : Job) (why : Reason) (o : Operation) → decide check g f ≡ work job why
+      → nextAfter check g f budget ≡ Do o → (powerUp check g f budget) .outcome ≡ cut
+  pub doneBad : (check : Check) (g : Geometry) (f : Flash) (budget n p : ℕ) (job : Job) (why : Reason) → decide check g f ≡ work job why
+      → nextAfter check g f budget ≡ Nothing → check g ((powerUp check g f budget) .flash .boot) ≡ refused n p
+      → (powerUp check g f budget) .outcome ≡ refusal (inside 12 n p)
+  pub doneGood : (check : Check) (g : Geometry) (f : Flash) (budget v : ℕ) (job : Job) (why : Reason) → decide check g f ≡ work job why
+      → nextAfter check g f budget ≡ Nothing → check g ((powerUp check g f budget) .flash .boot) ≡ gives v
+      → ToldOf job ((powerUp check g f budget) .outcome)
   -- nothing is run that is bad: BOOT's image in the flash that is left is good
   pub runsGood : (check : Check) (g : Geometry) (f : Flash) (budget : ℕ) → IsRun ((powerUp check g f budget) .outcome)
       → Good (check g ((powerUp check g f budget) .flash .boot))
