@@ -19,8 +19,8 @@ use Rattle.power_up.specs.declared.Outcome.{Outcome}
 use Rattle.power_up.specs.declared.Outcome.the-variants.{Refused, Cut, Run, RunOnTest, RunFallenBack}
 use Rattle.power_up.specs.Delivered.{outcomeOf, answered, Delivers}
 use Rattle.delivered.specs.Demand.{Gave, CallEvent, keptPower, cutOff, Happens, seen, AllowedCalls}
-use Rattle.delivered.specs.Witness.{Called, EveryListCalled}
-use Rattle.delivered.proofs.Delivered.{reads-firmware, ruled, as-ruled, at}
+use Rattle.delivered.specs.Witness.{ruled, Called, EveryListCalled}
+use Rattle.delivered.proofs.Delivered.{reads-firmware, as-ruled, at}
 
 -- ---- an answer of the code for what the rules have, where they refuse with 1 alone and have no reason
 
@@ -86,11 +86,11 @@ ruled-call f (lost g budget k t) = refl
 -- the rest of a list, by the stage that its first power-up left
 rest-of : (x : Exchange) (g : Geometry) (old f : Flash) (a : ℕ) (es : List Event) → ((b : ℕ) → Ongoing checkOf x g old f b → Called x g f es)
     → (¬ Finished x g f → (b : ℕ) × (a ≤ b) × Ongoing checkOf x g old f b) → Allowed checkOf x g f es → Called x g f es
-rest-of x g old f a [] again on h = record { calls = []; allowed = tt; leaves = refl }
+rest-of x g old f a [] again on h = record { calls = []; are = refl; allowed = tt; leaves = refl }
 rest-of x g old f a (e ∷ es) again on h = let q = on (h .0 .0) in again (q .0) (q .2)
 
 pub every-list-called : EveryListCalled
-every-list-called x g old f a o [] h = record { calls = []; allowed = tt; leaves = refl }
+every-list-called x g old f a o [] h = record { calls = []; are = refl; allowed = tt; leaves = refl }
 every-list-called x g old f a o (e ∷ es) h =
     joined
     (rest-of x g old ((left checkOf f e) .flash) a es (λ b o′. every-list-called x g old ((left checkOf f e) .flash) b o′ es (h .1))
@@ -107,6 +107,7 @@ every-list-called x g old f a o (e ∷ es) h =
         let back : (left checkOf f e) .flash ≡ (seen f (call f e)) .flash = sym (ap at same) in
         record {
           calls = call f e ∷ r .calls;
+          are = ap₂ (λ (d : Event) (ds : List Event). d ∷ ds) (ruled-call f e) (r .are);
           allowed = ((h .0 .0, here), subst (λ (y : Flash). AllowedCalls x g y (r .calls)) back (r .allowed));
           leaves = subst (λ (y : Flash). flashAfter seen y (r .calls) ≡ flashAfter (left checkOf) ((left checkOf f e) .flash) es) back (r .leaves);
         }

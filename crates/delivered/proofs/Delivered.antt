@@ -7,7 +7,7 @@ use Rattle.flash.specs.Sizes.{geometry}
 use Rattle.flash.specs.Buffers.{Flash}
 use Rattle.exchange.specs.PowerUp.{PowerUp, nextAfter}
 use Rattle.exchange.specs.LostPower.{tearNext}
-use Rattle.exchange.specs.Demand.{Exchange, Finished, ReadsFirmware, Event, untorn, lost, Left, leftUntorn, leftLost, left, EndsAsAllowed}
+use Rattle.exchange.specs.Demand.{Exchange, Finished, ReadsFirmware, Left, leftUntorn, leftLost, left, EndsAsAllowed}
 use Rattle.exchange.specs.Cases.{exchangeCases, three}
 use Rattle.exchange.proofs.Along.{same-allowed}
 use Rattle.exchange.proofs.Seen.{safe-seen}
@@ -19,16 +19,12 @@ use Rattle.header_round_trips.proofs.Marked.{header-cases}
 use Rattle.image.specs.Verdict.{checkOf}
 use Rattle.image.proofs.Verdicts.{check-reads-firmware}
 use Rattle.delivered.specs.Demand.{Gave, CallEvent, keptPower, cutOff, Happens, seen, Demand3, Demand3Ongoing}
+use Rattle.delivered.specs.Witness.{ruled}
 use Rattle.delivered.specs.MarkedCases.{ofExchange, ofHeader, MarkedCaseHolds, MarkedCases}
 
 -- the delivered check reads the firmware sectors and nothing else
 pub reads-firmware : (g : Geometry) → ReadsFirmware checkOf g
 reads-firmware g l l′ e e′ same = check-reads-firmware g l l′ same
-
--- a power-up of the calls, as the rules have it
-abbrev pub ruled : CallEvent → Event
-ruled (keptPower n s budget whole) = untorn (geometry n s) budget
-ruled (cutOff n s budget whole k part t) = lost (geometry n s) budget k t
 
 -- what the calls gave is what the rules have
 pub as-ruled : (x : Exchange) (g : Geometry) (f : Flash) (e : CallEvent) → (¬ Finished x g f) × Happens g f e

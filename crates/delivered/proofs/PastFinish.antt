@@ -9,17 +9,17 @@ use Rattle.numbers.specs.Answer.{gives}
 use Rattle.flash.specs.Sizes.{firmware}
 use Rattle.flash.specs.Buffers.{Flash, Shaped}
 use Rattle.flash_status.specs.declared.BootStatus.the-variants.{Testing, Success}
-use Rattle.flash_status.specs.declared.UpdateStatus.the-variants.{New}
+use Rattle.flash_status.specs.declared.UpdateStatus.the-variants.{New, Updating}
 use Rattle.flash.proofs.Checked.{shaped-of}
 use Rattle.flash.proofs.Bytes.{sectors-front}
-use Rattle.exchange.specs.PowerUp.{runsOnTest, runsFallenBack, powerUp}
+use Rattle.exchange.specs.PowerUp.{cut, runsOnTest, runsFallenBack, powerUp}
 use Rattle.exchange.specs.Demand.{update, from-success, untorn, Starts, left, completed, earlyEnds, isCut, AtFinish, Safe}
 use Rattle.exchange.specs.Cases.{three, UpdateReady, FallbackReady, LeavesAs, Leaves, leaves, counts, lastOutcome}
 use Rattle.exchange.proofs.Whole.{demand-3}
 use Rattle.exchange.proofs.RuledOut.{ruled-out}
 use Rattle.exchange.proofs.Cases.{marked-exchange}
 use Rattle.image.specs.Verdict.{checkOf}
-use Rattle.delivered.specs.PastFinish.{onceMore, PastFinish}
+use Rattle.delivered.specs.PastFinish.{onceMore, PastFinish, fiveThenAll, BoundReached}
 use Rattle.delivered.proofs.Delivered.{reads-firmware}
 
 -- a list of one power-up: its count
@@ -70,7 +70,7 @@ module _ (f : Flash) (r : UpdateReady checkOf f) where
   }
 
   after-fallback : LeavesAs checkOf f₁ (100 ∷ []) (leaves (19 ∷ []) runsFallenBack none Success New)
-  after-fallback = marked-exchange checkOf (reads-firmware three) .1 .1 .1 .1 .1 .1 .1 .1 .1 .1 .0 f₁ ready
+  after-fallback = marked-exchange checkOf (reads-firmware three) .1 .1 .1 .1 .1 .1 .1 .1 .1 .1 .1 .0 f₁ ready
 
   all-done : completed (left checkOf) f onceMore ≡ 40
   unfolding left
@@ -82,3 +82,44 @@ module _ (f : Flash) (r : UpdateReady checkOf f) where
 
 pub past-finish : PastFinish
 past-finish f r = omega (arith, all-done f r, none-early f r)
+
+-- ---- the bound is reached
+
+-- two power-ups: their counts, and the last outcome
+counts-of : (f : Flash) (b c : ℕ) (l : Leaves) → LeavesAs checkOf f (b ∷ c ∷ []) l
+    → ((powerUp checkOf three f b) .count ≡ getD (l .counted) 0 0) × ((powerUp checkOf three ((powerUp checkOf three f b) .flash) c) .count ≡ getD (l .counted) 1 0)
+unfolding counts
+counts-of f b c l h = (ap (λ (k : List ℕ). getD k 0 0) (h .counted), ap (λ (k : List ℕ). getD k 1 0) (h .counted))
+
+last-of : (f : Flash) (b c : ℕ) (l : Leaves) → LeavesAs checkOf f (b ∷ c ∷ []) l
+    → isCut ((powerUp checkOf three ((powerUp checkOf three f b) .flash) c) .outcome) ≡ isCut (l .outcome)
+unfolding lastOutcome
+last-of f b c l h = ap isCut (h .outcome)
+
+module _ (f : Flash) (r : UpdateReady checkOf f) where
+  -- case 3: a budget of 5, and then 100
+  first-cut : LeavesAs checkOf f (5 ∷ []) (leaves (5 ∷ []) cut none Success Updating)
+  first-cut = marked-exchange checkOf (reads-firmware three) .1 .1 .1 .1 .1 .1 .1 .1 .0 f r
+
+  both : LeavesAs checkOf f (5 ∷ 100 ∷ []) (leaves (5 ∷ 18 ∷ []) runsOnTest none Testing New)
+  both = marked-exchange checkOf (reads-firmware three) .1 .1 .1 .1 .1 .1 .1 .1 .1 .0 f r
+
+  done-23 : completed (left checkOf) f fiveThenAll ≡ 23
+  unfolding left
+  done-23 = ap₂ (λ (x y : ℕ). x + (y + 0)) (counts-of f 5 100 _ both .0) (counts-of f 5 100 _ both .1)
+
+  one-early : earlyEnds (left checkOf) f fiveThenAll ≡ 1
+  unfolding left
+  one-early = ap₂ (λ (x y : ℕ). x + (y + 0)) (cut-of f 5 _ first-cut) (last-of f 5 100 _ both)
+
+fallback-19 : (f : Flash) → FallbackReady checkOf f → completed (left checkOf) f (untorn three 100 ∷ []) ≡ 19
+unfolding left
+fallback-19 f r =
+    ap (λ (x : ℕ). x + 0) (count-of f 100 _ (marked-exchange checkOf (reads-firmware three) .1 .1 .1 .1 .1 .1 .1 .1 .1 .1 .1 .0 f r))
+
+pub bound-reached : BoundReached
+bound-reached = record {
+  ofUpdate = λ f r. omega (arith, done-23 f r, one-early f r);
+  oneEnd = one-early;
+  ofFallback = λ f r. omega (arith, fallback-19 f r);
+}

@@ -2,20 +2,21 @@
 -- a list with a refused power-up, a torn copy, an early end and the finish.
 use mathlib.Core.Path.{_≡_}
 use mathlib.Core.Bool.{false}
-use mathlib.Core.List.{List, [], _∷_, _++_}
+use mathlib.Core.List.{List, [], _∷_, _++_, map}
 use Prim.Native.Nat.{ℕ, _+_, _≤_}
 use lib.ListN.{length, replicate}
 use Rattle.digest_fips180.specs.Sha256.{sha256}
 use Rattle.header_reader.specs.declared.Header.{Header}
 use Rattle.header_writer.specs.Writing.{headerBytes}
 use Rattle.flash.specs.declared.Geometry.{Geometry}
+use Rattle.flash.specs.Sizes.{geometry}
 use Rattle.flash.specs.Buffers.{Flash, flash}
 use Rattle.exchange.specs.LostPower.{Torn}
-use Rattle.exchange.specs.Demand.{Exchange, update, fallback, Starts, Ongoing, Event, left, flashAfter, Allowed, most}
+use Rattle.exchange.specs.Demand.{Exchange, update, fallback, Starts, Ongoing, Event, untorn, lost, left, flashAfter, Allowed, most}
 use Rattle.exchange.specs.Cases.{three}
 use Rattle.exchange.specs.Reached.{roughList, Reached}
 use Rattle.image.specs.Verdict.{checkOf}
-use Rattle.delivered.specs.Demand.{CallEvent, seen, AllowedCalls}
+use Rattle.delivered.specs.Demand.{CallEvent, keptPower, cutOff, seen, AllowedCalls}
 
 -- An image of a version, over a firmware of one byte, in two sectors of 256; and a trailer sector with a status byte.
 abbrev pub headerOf : ℕ → Header
@@ -41,9 +42,15 @@ armed = flash (imagePartition 7 0x00) (imagePartition 8 0x70) (replicate 256 0)
 unfoldable pub onTest : Flash
 onTest = flash (imagePartition 7 0x10) (imagePartition 6 0xFF) (replicate 256 0)
 
--- A list of calls that 01 allows from f, and that leaves what the rules have of the list es.
+-- A power-up of the calls as the rules have it: the same geometry, budget, loss of power and tear.
+abbrev pub ruled : CallEvent → Event
+ruled (keptPower n s budget whole) = untorn (geometry n s) budget
+ruled (cutOff n s budget whole k part t) = lost (geometry n s) budget k t
+
+-- A list of calls that 01 allows from f: they are the power-ups of the list es, one for one, and leave what the rules have of it.
 pub record Called (x : Exchange) (g : Geometry) (f : Flash) (es : List Event) : Type 0 where
   pub calls : List CallEvent
+  pub are : map ruled calls ≡ es
   pub allowed : AllowedCalls x g f calls
   pub leaves : flashAfter seen f calls ≡ flashAfter (left checkOf) f es
 

@@ -354,7 +354,7 @@ computed x l r bs y a b c d e f = record { goes = a; counted = b; outcome = c; b
 agreed : Every Agrees exchangeCases
 unfolding flagOf flagsShown pastZeros allF
 agreed =
-    (computed _ _ _ _ _ refl refl refl (omega arith, refl) refl refl, (computed _ _ _ _ _ refl refl refl (omega arith, refl) refl refl, (computed _ _ _ _ _ refl refl refl (omega arith, refl) refl refl, (computed _ _ _ _ _ refl refl refl (omega arith, refl) refl refl, (computed _ _ _ _ _ refl refl refl (omega arith, refl) refl refl, (computed _ _ _ _ _ refl refl refl (omega arith, refl) refl refl, (computed _ _ _ _ _ refl refl refl tt refl refl, (computed _ _ _ _ _ refl refl refl tt refl refl, (computed _ _ _ _ _ refl refl refl tt refl refl, (computed _ _ _ _ _ refl refl refl (omega arith, refl) refl refl, (computed _ _ _ _ _ refl refl refl tt refl refl, (refl, (tt, tt)))))))))))))
+    (computed _ _ _ _ _ refl refl refl (omega arith, refl) refl refl, (computed _ _ _ _ _ refl refl refl (omega arith, refl) refl refl, (computed _ _ _ _ _ refl refl refl (omega arith, refl) refl refl, (computed _ _ _ _ _ refl refl refl (omega arith, refl) refl refl, (computed _ _ _ _ _ refl refl refl (omega arith, refl) refl refl, (computed _ _ _ _ _ refl refl refl (omega arith, refl) refl refl, (computed _ _ _ _ _ refl refl refl tt refl refl, (computed _ _ _ _ _ refl refl refl tt refl refl, (computed _ _ _ _ _ refl refl refl tt refl refl, (computed _ _ _ _ _ refl refl refl tt refl refl, (computed _ _ _ _ _ refl refl refl (omega arith, refl) refl refl, (computed _ _ _ _ _ refl refl refl tt refl refl, (refl, (tt, tt))))))))))))))
 
 pub marked-exchange : MarkedExchange
 marked-exchange check R = every Agrees (ExchangeCaseHolds check) (law check R) exchangeCases agreed

@@ -128,6 +128,7 @@ exchangeCases =
     ∷ powerUps update (20 ∷ []) (leaves (20 ∷ []) cut none Testing Updating)
     ∷ powerUps update (21 ∷ []) (leaves (21 ∷ []) runsOnTest none Testing New)
     -- 3
+    ∷ powerUps update (5 ∷ []) (leaves (5 ∷ []) cut none Success Updating)
     ∷ powerUps update (5 ∷ 100 ∷ []) (leaves (5 ∷ 18 ∷ []) runsOnTest none Testing New)
     -- 4
     ∷ powerUps update (2 ∷ 2 ∷ 2 ∷ []) (leaves (2 ∷ 2 ∷ 2 ∷ []) cut (some 0xFF) Success Updating)
