@@ -6,7 +6,7 @@ use native.Mathlib.Decide.{decLt}
 use native.Mathlib.Omega.{arith}
 use lib.Dec.{ltb}
 use borrow.Author.Tests.{lt-ltb, le-ltb}
-use Rattle.numbers.specs.Answer.{Answer, gives, refused, because, noReason, Refusal}
+use Rattle.numbers.specs.Answer.{Answer, gives, refused, because, noReason, Refusal, inside}
 use Rattle.exchange.specs.Base.{Geometry, BootStatus, BootNew, Testing, Success, UpdateStatus, UpdateNew, Updating, Flags, AllF}
 use Rattle.exchange.specs.Base.{Flash, fits, bootStatusAt, updateStatusAt, flagsAt}
 use Rattle.exchange.specs.declared.Job.the-variants.{Update, Fallback, TurnDown}
@@ -38,6 +38,13 @@ pub record Accepted (check : Check) (x : Exchange) (g : Geometry) (f : Flash) : 
 
 -- ---- what decides for an exchange
 
+-- a bad BOOT under a good UPDATE is 12; a bad UPDATE to fall back to is 13
+pub boot-is-12 : (v n p : ℕ) → accept (gives v) (refused n p) ≡ refuse (inside 12 n p)
+boot-is-12 v n p = refl
+
+pub update-is-13 : (n p : ℕ) → acceptFallback (refused n p) ≡ refuse (inside 13 n p)
+update-is-13 n p = refl
+
 refused-no-work : (x : Exchange) {r : Refusal} → refuse r ≡ work (jobOf x) noReason → ⊥
 refused-no-work x e = let z : _≡_ {A = ℕ} 0 1 = cc in omega arith
 
@@ -58,7 +65,7 @@ not-newer v w h = turns-down (ltb w v) (le-ltb w v h)
 
 accept-newer : (u b : Answer ℕ) → accept u b ≡ work Update noReason → Newer u b
 accept-newer (refused n p) b e = absurd (let z : _≡_ {A = ℕ} 0 1 = cc in omega arith)
-accept-newer (gives v) (refused n p) e = absurd (let z : _≡_ {A = ℕ} 0 1 = cc in omega arith)
+accept-newer (gives v) (refused n p) e = absurd (refused-no-work update (sym (boot-is-12 v n p) ∙ e))
 accept-newer (gives v) (gives w) e = by (decLt w v)
   where
     by : Dec (w < v) → Newer (gives v) (gives w)
@@ -67,7 +74,7 @@ accept-newer (gives v) (gives w) e = by (decLt w v)
 
 accept-no-fallback : (u b : Answer ℕ) → accept u b ≡ work Fallback noReason → ⊥
 accept-no-fallback (refused n p) b e = let z : _≡_ {A = ℕ} 0 1 = cc in omega arith
-accept-no-fallback (gives v) (refused n p) e = let z : _≡_ {A = ℕ} 0 1 = cc in omega arith
+accept-no-fallback (gives v) (refused n p) e = refused-no-work fallback (sym (boot-is-12 v n p) ∙ e)
 accept-no-fallback (gives v) (gives w) e = by (ltb w v) e
   where
     by : (t : Bool) → cond t (work Update noReason) (work TurnDown (because 15 0)) ≡ work Fallback noReason → ⊥
@@ -75,11 +82,11 @@ accept-no-fallback (gives v) (gives w) e = by (ltb w v) e
     by false e = let z : _≡_ {A = ℕ} 0 1 = cc in omega arith
 
 fallback-good : (u : Answer ℕ) → acceptFallback u ≡ work Fallback noReason → Good u
-fallback-good (refused n p) e = absurd (let z : _≡_ {A = ℕ} 0 1 = cc in omega arith)
+fallback-good (refused n p) e = absurd (refused-no-work fallback (sym (update-is-13 n p) ∙ e))
 fallback-good (gives v) e = record { version = v; good = refl }
 
 fallback-no-update : (u : Answer ℕ) → acceptFallback u ≡ work Update noReason → ⊥
-fallback-no-update (refused n p) e = let z : _≡_ {A = ℕ} 0 1 = cc in omega arith
+fallback-no-update (refused n p) e = refused-no-work update (sym (update-is-13 n p) ∙ e)
 fallback-no-update (gives v) e = let z : _≡_ {A = ℕ} 0 1 = cc in omega arith
 
 -- the statuses and the images, where all flags are F

@@ -27,7 +27,7 @@ use Rattle.flash_status.proofs.Ten.{boot-refused, update-refused}
 use Rattle.flash_flags.proofs.Laws.{update-erased}
 use Rattle.exchange.proofs.Orders.{next-by-reads, decide-by-reads}
 use Rattle.exchange.proofs.Runs.{run-none, run-some, run-count, run-flash, operations-first, operations-next, run-within, power-up-works}
-use Rattle.exchange.proofs.Accepted.{Images, Accepted, begun, not-newer, accepted}
+use Rattle.exchange.proofs.Accepted.{Images, Accepted, begun, not-newer, accepted, boot-is-12, update-is-13}
 use Rattle.exchange.proofs.Decided.{resumed}
 
 -- ---- by what is read
@@ -217,10 +217,10 @@ module _ (check : Check) (g : Geometry) (f : Flash) (budget : ℕ) (job : Job) (
 -- ---- a bad image with all flags F
 
 accept-over-bad : (y z : Answer ℕ) (v n p : ℕ) → y ≡ gives v → z ≡ refused n p → accept y z ≡ refuse (inside 12 n p)
-accept-over-bad y z v n p e k = rw (e, k) refl
+accept-over-bad y z v n p e k = rw (e, k) (boot-is-12 v n p)
 
 fallback-to-bad : (y : Answer ℕ) (n p : ℕ) → y ≡ refused n p → acceptFallback y ≡ refuse (inside 13 n p)
-fallback-to-bad y n p e = rw e refl
+fallback-to-bad y n p e = rw e (update-is-13 n p)
 
 bad-boot-stays : (check : Check) (g : Geometry) (f : Flash) (b : BootStatus) (v n p budget : ℕ) → Underway update b Updating → Reads g f b Updating AllF
     → check g (f .update) ≡ gives v → check g (f .boot) ≡ refused n p → powerUp check g f budget ≡ idle (refusal (inside 12 n p)) f
