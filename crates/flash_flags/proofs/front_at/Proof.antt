@@ -1,14 +1,18 @@
-use mathlib.Core.Path.{sym, ap, _∙_}
-use Rattle.flash_flags.specs.SectorFlags.{frontAt}
+use mathlib.Core.Bool.{true, false}
+use Rattle.flash_flags.proofs.Scan.{front-shown}
 use borrow.Author.Needs.{needs}
 use Rattle.flash_flags.proofs.front_at.Statement.{statement}
 use Rattle.flash_flags.proofs.front_at.Tie as tie
 
 returns : tie.Need-returns
-returns c = let a = c .before .before .before .before .args in ap (frontAt (a .i .0) (a .leg)) (sym (c .if1 .taken) ∙ c .before .untouched-from .ensures)
+returns c =
+    let a = c .before .before .before .before .args in
+    front-shown (a .g) (a .update .now) (a .i .0) (a .leg) true _ (c .if1 .taken) (c .before .untouched-from .ensures)
 
 returns-2 : tie.Need-returns-2
-returns-2 c = let a = c .before .before .before .before .args in ap (frontAt (a .i .0) (a .leg)) (sym (c .if1 .left) ∙ c .before .untouched-from .ensures)
+returns-2 c =
+    let a = c .before .before .before .before .args in
+    front-shown (a .g) (a .update .now) (a .i .0) (a .leg) false _ (c .if1 .left) (c .before .untouched-from .ensures)
 
 pub front-at-spec : {M : Type 1} → statement M
 front-at-spec = tie.close (tie.spec (λ c. search needs) (λ c κs. search needs) returns returns-2)

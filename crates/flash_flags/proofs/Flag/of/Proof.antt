@@ -1,4 +1,4 @@
-use mathlib.Core.Path.{sym, ap}
+use mathlib.Core.Path.{refl, sym, ap}
 use borrow.Author.Tests.{ne-eqb}
 use Rattle.flash_flags.specs.SectorFlags.{flagOf}
 use Rattle.flash_flags.proofs.Flag.of.Statement.{statement}
@@ -22,7 +22,7 @@ returns-4 c = sym (ap flagOf (c .match .keys4))
 
 returns-5 : tie.Need-returns-5
 unfolding flagOf
-returns-5 c = let r = c .match .rest in simp (ne-eqb _ _ (r .0 .0 .0 .1), ne-eqb _ _ (r .0 .0 .1), ne-eqb _ _ (r .0 .1), ne-eqb _ _ (r .1))
+returns-5 c = let r = c .match .rest in simp (ne-eqb _ _ (r .0 .0 .0 .1), ne-eqb _ _ (r .0 .0 .1), ne-eqb _ _ (r .0 .1), ne-eqb _ _ (r .1)) refl
 
 pub of-spec : {M : Type 1} → statement M
 of-spec = tie.close (tie.spec returns returns-2 returns-3 returns-4 returns-5)
