@@ -1,3 +1,4 @@
+use mathlib.Core.Path.{refl}
 use Rattle.exchange.specs.Order.{nextOperation}
 use borrow.Author.Needs.{needs}
 use Rattle.power_up.proofs.do_job.Statement.{statement}
@@ -7,7 +8,7 @@ returns : tie.Need-returns
 unfolding nextOperation
 returns c =
     let c9 = c .before .before .before .before .before .before .before .before .before in
-    rw (← c9 .repeat-step .ensures, c .outcome-at .ensures)
+    rw (← c9 .repeat-step .ensures, c .outcome-at .ensures) refl
 
 pub do-job-spec : {M : Type 1} → statement M
 do-job-spec =
