@@ -9,7 +9,7 @@ returns c =
     let x = c .before .before .put-line in
     let c7 = c .before .before .before .before .before .before .before in
     let a = c7 .before .before .before .before .args in
-    (puts-refusal {r = x .result} (a .number) (a .place) (c7 .put-named .ensures .0) (x .ensures .0), search needs)
+    (puts-refusal {q = c7 .put-named .result} {r = x .result} (a .number) (a .place) (c7 .put-named .ensures .0) (x .ensures .0), search needs)
 
 pub put-refusal-spec : {M : Type 1} → statement M
 put-refusal-spec =

@@ -13,7 +13,7 @@ returns c =
     let c8 = c6 .before .before in
     let c10 = c8 .before .before in
     let a = c10 .before .before .before .args in
-    rw (checked (a .g) (a .update .now) _ (c10 .judge-partition .ensures) (c8 .coming .given .1), checked (a .g) (a .boot .now) _ (c6 .judge-partition2 .ensures) (c4 .running .given .1), lt-ltb _ _ (omega arith)) refl
+    rw (checked (a .g) (a .update .now) _ (c10 .judge-partition .ensures) (c8 .coming .given .1), checked (a .g) (a .boot .now) _ (c6 .judge-partition2 .ensures) (c4 .running .given .1), lt-ltb (c4 .running .given .0 .0 .version) (c8 .coming .given .0 .0 .version) (omega arith)) refl
 
 returns-2 : tie.Need-returns-2
 returns-2 c =
@@ -22,7 +22,7 @@ returns-2 c =
     let c8 = c6 .before .before in
     let c10 = c8 .before .before in
     let a = c10 .before .before .before .args in
-    rw (checked (a .g) (a .update .now) _ (c10 .judge-partition .ensures) (c8 .coming .given .1), checked (a .g) (a .boot .now) _ (c6 .judge-partition2 .ensures) (c4 .running .given .1), le-ltb _ _ (omega arith)) refl
+    rw (checked (a .g) (a .update .now) _ (c10 .judge-partition .ensures) (c8 .coming .given .1), checked (a .g) (a .boot .now) _ (c6 .judge-partition2 .ensures) (c4 .running .given .1), le-ltb (c4 .running .given .0 .0 .version) (c8 .coming .given .0 .0 .version) (omega arith)) refl
 
 returns-3 : tie.Need-returns-3
 returns-3 c =
