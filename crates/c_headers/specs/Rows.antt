@@ -11,11 +11,12 @@ abbrev pub bitOf : Bool → ℕ
 bitOf true = 1
 bitOf false = 0
 
--- A header's values: the numbers, behind the place of a refusal, and the bytes.
+-- A header's numbers, behind the place of a refusal.
 abbrev pub headerNumbers : ℕ → Header → List ℕ
 headerNumbers place v =
     place ∷ v .size ∷ v .version ∷ v .timestamp ∷ v .«auth_type» ∷ bitOf (v .«has_hint») ∷ []
 
+-- A header's bytes: digest, signature and hint, one behind another.
 abbrev pub bytesOf : Header → List ℕ
 bytesOf v = v .digest ++ (v .signature ++ v .hint)
 

@@ -16,6 +16,7 @@ ended outcome = record { outcome = outcome; number = 0; inner = 0; place = 0 }
 abbrev pub endedRefused : RefusedInside → Ended
 endedRefused r = record { outcome = 0; number = r .number; inner = r .inner; place = r .place }
 
+-- The outcomes of "Power-up" by numbers: 0 a refusal, 1 "cut", 2 "run", 3 "run on test", 4 "run, fallen back".
 abbrev pub endedOf : Outcome → Ended
 endedOf (refusal r) = endedRefused (threeNumbers r)
 endedOf cut = ended 1

@@ -1,4 +1,5 @@
-// The hash computation of SHA-256, block by block: the functions, the message schedule and the rounds. Numbers as 4.1.2 are sections of FIPS 180-4.
+// The hash computation of SHA-256, block by block: the functions, the message schedule and the rounds. Numbers as 4.1.2 are sections of
+// FIPS 180-4.
 ghost use mathlib.Core.Path.{_≡_};
 ghost use Prim.Native.Nat.{_+_, _*_, _/_, _≤_, _<_};
 ghost use lib.ListN.{length, take};
@@ -125,7 +126,7 @@ fn wide(x: u8) -> u32
 }
 
 // 5.2.1: word t of the block b.
-fn word(b: &[u8], t: usize) -> u32
+fn read_word(b: &[u8], t: usize) -> u32
     requires { ⌜ 4 * t + 4 ≤ length (now b) ⌝ }
     ensures { λ r. ⌜ r ≡ fips.word (now (b .entry)) t ⌝ }
 {
@@ -141,7 +142,7 @@ fn load(b: &[u8]) -> [u32; 64]
     let mut w = [0u32; 64];
     let mut t: usize = 0;
     while t < 16 {
-        let x = word(b, t);
+        let x = read_word(b, t);
         w[t] = x;
         t += 1;
     }
@@ -176,7 +177,7 @@ fn extend(m: [u32; 64]) -> [u32; 64]
 }
 
 // 6.2.2, step 1: the schedule of the block b.
-fn schedule(b: &[u8]) -> [u32; 64]
+fn make_schedule(b: &[u8]) -> [u32; 64]
     requires { ⌜ 64 ≤ length (now b) ⌝ }
     ensures { λ r. ⌜ r ≡ fips.schedule (fips.words (now (b .entry))) 48 ⌝ }
 {
@@ -184,7 +185,7 @@ fn schedule(b: &[u8]) -> [u32; 64]
 }
 
 // 6.2.2, step 3, at one t: k is K_t and w is W_t.
-fn round(s: [u32; 8], k: u32, w: u32) -> [u32; 8]
+fn do_round(s: [u32; 8], k: u32, w: u32) -> [u32; 8]
     ensures { λ r. ⌜ r ≡ fips.round s k w ⌝ }
 {
     let t1 = add(
@@ -206,21 +207,21 @@ fn round(s: [u32; 8], k: u32, w: u32) -> [u32; 8]
 
 // 6.2.2, steps 2 and 3: the working variables after 64 rounds on the schedule w. A turn is eight rounds, so that the variables
 // change places in name alone.
-fn rounds(w: [u32; 64], h: [u32; 8]) -> [u32; 8]
+fn do_rounds(w: [u32; 64], h: [u32; 8]) -> [u32; 8]
     ensures { λ r. ⌜ r ≡ fips.rounds w h 64 ⌝ }
 {
     let k = K;
     let mut s = h;
     let mut t: usize = 0;
     while t < 64 {
-        let s1 = round(s, k[t], w[t]);
-        let s2 = round(s1, k[t + 1], w[t + 1]);
-        let s3 = round(s2, k[t + 2], w[t + 2]);
-        let s4 = round(s3, k[t + 3], w[t + 3]);
-        let s5 = round(s4, k[t + 4], w[t + 4]);
-        let s6 = round(s5, k[t + 5], w[t + 5]);
-        let s7 = round(s6, k[t + 6], w[t + 6]);
-        let s8 = round(s7, k[t + 7], w[t + 7]);
+        let s1 = do_round(s, k[t], w[t]);
+        let s2 = do_round(s1, k[t + 1], w[t + 1]);
+        let s3 = do_round(s2, k[t + 2], w[t + 2]);
+        let s4 = do_round(s3, k[t + 3], w[t + 3]);
+        let s5 = do_round(s4, k[t + 4], w[t + 4]);
+        let s6 = do_round(s5, k[t + 5], w[t + 5]);
+        let s7 = do_round(s6, k[t + 6], w[t + 6]);
+        let s8 = do_round(s7, k[t + 7], w[t + 7]);
         s = s8;
         t += 8;
     }
@@ -244,15 +245,15 @@ fn next_hash(s: [u32; 8], h: [u32; 8]) -> [u32; 8]
 }
 
 // 6.2.2: the hash value after the block b.
-pub fn compress(h: [u32; 8], b: &[u8]) -> [u32; 8]
+pub fn compress_block(h: [u32; 8], b: &[u8]) -> [u32; 8]
     requires { ⌜ 64 ≤ length (now b) ⌝ }
     ensures { λ r. ⌜ r ≡ fips.compress h (fips.words (now (b .entry))) ⌝ }
 {
-    next_hash(rounds(schedule(b), h), h)
+    next_hash(do_rounds(make_schedule(b), h), h)
 }
 
 // 6.2.2: the hash value after the whole blocks of m, from h on.
-pub fn hash(h: [u32; 8], m: &[u8]) -> [u32; 8]
+pub fn hash_blocks(h: [u32; 8], m: &[u8]) -> [u32; 8]
     ensures { λ r. ⌜ r ≡ fips.hash h (now (m .entry)) (length (now (m .entry)) / 64) ⌝ }
 {
     let n = m.len() / 64;
@@ -261,7 +262,7 @@ pub fn hash(h: [u32; 8], m: &[u8]) -> [u32; 8]
     while i < n {
         let at = 64 * i;
         let end = at + 64;
-        let x = compress(s, &m[at..end]);
+        let x = compress_block(s, &m[at..end]);
         s = x;
         i += 1;
     }

@@ -35,7 +35,8 @@ pub fn put_over(b: &mut [u8], at: usize, part: &[u8])
 // The first fill bytes of old, those of part, and zeros.
 pub fn join(old: [u8; 64], fill: usize, part: &[u8]) -> [u8; 64]
     requires { ⌜ fill + length (now part) ≤ 64 ⌝ }
-    ensures { λ r. ⌜ r ≡ (take fill (old ++ replicate 64 0) ++ now (part .entry)) ++ replicate (64 - (fill + length (now (part .entry)))) 0 ⌝ }
+    ensures { λ r. ⌜ r ≡ (take fill (old ++ replicate 64 0) ++ now (part .entry))
+        ++ replicate (64 - (fill + length (now (part .entry)))) 0 ⌝ }
 {
     put(put([0u8; 64], 0, &old[..fill]), fill, part)
 }
@@ -53,7 +54,7 @@ pub fn put_length(b: &mut [u8], bits: u64)
 }
 
 // 6.2.2: the bytes of the digest.
-pub fn bytes(h: [u32; 8]) -> [u8; 32]
+pub fn words_to_bytes(h: [u32; 8]) -> [u8; 32]
     ensures { λ r. ⌜ r ≡ fips.bytes h ⌝ }
 {
     let mut r = [0u8; 32];

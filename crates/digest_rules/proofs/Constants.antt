@@ -135,6 +135,6 @@ unfolding K H0 primes fractionAt fraction? wholeRoot
 constants =
     record {
       primes-rule = first-primes;
-      K-rule = table-sound 3 64 K refl tt;
-      H0-rule = table-sound 2 8 H0 refl tt;
+      K-rule = table-sound _ _ _ refl tt;
+      H0-rule = table-sound _ _ _ refl tt;
     }

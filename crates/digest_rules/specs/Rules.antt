@@ -7,30 +7,31 @@ use Rattle.digest_fips180.specs.Sha256.{_!_, K, H0, zeros, pad, sha256}
 
 -- ---- 5.1.1, the padding in bits, as the standard has it.
 
--- k is the smallest number of zero bits with l + 1 + k = 448 modulo 512, for a message of l bits.
+-- 5.1.1: k is the smallest number of zero bits with l + 1 + k = 448 modulo 512, for a message of l bits.
 pub record ZeroBits (l k : ℕ) : Type 0 where
   pub fills : (l + 1 + k) % 512 ≡ 448
   pub smallest : (j : ℕ) → (l + 1 + j) % 512 ≡ 448 → k ≤ j
 
--- Seven zero bits stand in the byte 0x80, and eight in each zero byte; and the padded message is whole blocks.
+-- 5.1.1, as our bytes have it: seven zero bits stand in the byte 0x80, and eight in each zero byte; and the padded message is whole
+-- blocks.
 pub record PaddingRule : Type 0 where
   pub bits : (n : ℕ) → ZeroBits (8 * n) (7 + 8 * zeros n)
   pub blocks : (m : List ℕ) → length (pad m) % 64 ≡ 0
 
 -- ---- 4.2.2 and 5.3.3, the rule of the constants.
 
--- p is at least 2, and no number from 2 to p - 1 divides it.
+-- A prime, as 4.2.2 and 5.3.3 speak of the first ones: p is at least 2, and no number from 2 to p - 1 divides it.
 pub record Prime (p : ℕ) : Type 0 where
   pub least : 2 ≤ p
   pub only : (d : ℕ) → 2 ≤ d → d < p → p % d ≡ 0 → ⊥
 
--- q is the first prime above p.
+-- The order of the primes: q is the first prime above p.
 pub record NextPrime (p q : ℕ) : Type 0 where
   pub above : p < q
   pub prime : Prime q
   pub none : (d : ℕ) → p < d → d < q → Prime d → ⊥
 
--- The first 64 primes: the first prime above 0, and then each time the next.
+-- 4.2.2, the first 64 primes.
 unfoldable pub primes : List ℕ
 primes =
     2 ∷ 3 ∷ 5 ∷ 7 ∷ 11 ∷ 13 ∷ 17 ∷ 19 ∷ 23 ∷ 29 ∷ 31 ∷ 37 ∷ 41 ∷ 43 ∷ 47 ∷ 53 ∷
@@ -38,24 +39,25 @@ primes =
     137 ∷ 139 ∷ 149 ∷ 151 ∷ 157 ∷ 163 ∷ 167 ∷ 173 ∷ 179 ∷ 181 ∷ 191 ∷ 193 ∷ 197 ∷ 199 ∷ 211 ∷ 223 ∷
     227 ∷ 229 ∷ 233 ∷ 239 ∷ 241 ∷ 251 ∷ 257 ∷ 263 ∷ 269 ∷ 271 ∷ 277 ∷ 281 ∷ 283 ∷ 293 ∷ 307 ∷ 311 ∷ []
 
+-- They are these: the first prime above 0, and then each time the next.
 pub record FirstPrimes : Type 0 where
   pub first : NextPrime 0 (primes ! 0)
   pub next : (t : ℕ) → t < 63 → NextPrime (primes ! t) (primes ! (t + 1))
 
--- k is the first 32 bits of the fractional part of the e-th root of p: for the root's whole part, whole * 2^32 + k is the root
--- times 2^32, rounded down.
+-- 4.2.2 and 5.3.3: k is the first 32 bits of the fractional part of the e-th root of p: for the root's whole part, whole * 2^32 + k is
+-- the root times 2^32, rounded down.
 pub record Fraction (e p k : ℕ) : Type 0 where
   pub whole : ℕ
   pub small : k < 2 ^ 32
   pub below : (whole * 2 ^ 32 + k) ^ e ≤ p * (2 ^ 32) ^ e
   pub above : p * (2 ^ 32) ^ e < (whole * 2 ^ 32 + k + 1) ^ e
 
--- A table of n constants that are the fractions of the e-th roots of the first n primes.
+-- 4.2.2 and 5.3.3: a table of n constants that are the fractions of the e-th roots of the first n primes.
 pub record RootTable (e n : ℕ) (table : List ℕ) : Type 0 where
   pub size : length table ≡ n
   pub entry : (t : ℕ) → t < n → Fraction e (primes ! t) (table ! t)
 
--- K has the cube roots of the first 64 primes, H0 the square roots of the first 8.
+-- 4.2.2: K has the cube roots of the first 64 primes. 5.3.3: H0 has the square roots of the first 8.
 pub record ConstantsRule : Type 0 where
   pub primes-rule : FirstPrimes
   pub K-rule : RootTable 3 64 K

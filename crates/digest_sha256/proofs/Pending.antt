@@ -7,13 +7,19 @@ use lib.ListN.{length, take, drop, replicate, length-append, length-drop, length
 use lib.Seq.{paste, take-at, take-all}
 use Rattle.digest_sha256.specs.declared.Hasher.{Hasher}
 use Rattle.digest_fips180.specs.Sha256.{block, words, zeros, bigEndian, padding, compress, hash}
-use Rattle.digest_sha256.specs.Parts.{settle, waiting, absorbOf}
+use Rattle.digest_sha256.specs.Parts.{settle, waiting, absorbOf, digestAfter}
 use Rattle.digest_bytes.proofs.Blocks.{put-first}
-use Rattle.digest_sha256.proofs.Concatenation.{same, length-waiting, concatenation, field-wrap}
+use Rattle.digest_sha256.proofs.Concatenation.{same, length-waiting, concatenation, field-wrap, after-blocks}
 
 -- a slice's elements from n on
 pub from : (p : List ℕ) (n : ℕ) → take (length p - n) (drop n p) ≡ drop n p
 from p n = take-all (length p - n) (drop n p) (rw length-drop (omega arith))
+
+-- the hash value g after the whole blocks of m, and the bytes from there on
+pub behind-blocks : (h m : List ℕ) (n f : ℕ) (g : List ℕ) → f ≡ 64 * (length m / 64) → g ≡ hash h m (length m / 64)
+    → digestAfter g (take (length m - f) (drop f m)) n ≡ digestAfter h m n
+behind-blocks h m n f g e eg =
+    ap₂ (λ (x b : List ℕ). digestAfter x b n) eg (from m f ∙ ap (λ (k : ℕ). drop k m) e) ∙ after-blocks h m n
 
 module _ (d : Hasher) (p : List ℕ) where
   abbrev k : ℕ

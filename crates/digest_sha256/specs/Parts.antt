@@ -1,12 +1,13 @@
--- SHA-256 of a message that is absorbed in parts: what a `Hasher` is worth.
+-- SHA-256 of a message that is absorbed in parts: what a `Hasher` is worth. The standard has whole messages only; the sections of FIPS
+-- 180-4 named here are those that a state carries out in part.
 use Prim.Native.Nat.{ℕ, _+_, _-_, _*_, _/_, _%_, _^_}
 use mathlib.Core.List.{List, [], _∷_, _++_}
 use lib.ListN.{length, take, drop, replicate}
 use Rattle.digest_sha256.specs.declared.Hasher.{Hasher}
 use Rattle.digest_fips180.specs.Sha256.{H0, padding, hash, bytes}
 
--- The state that takes the hash value h over the whole blocks of b, keeps the bytes after them, with zeros up to 64, and has
--- counted n bytes.
+-- 6.2.2 in part: the state that takes the hash value h over the whole blocks of b, keeps the bytes after them, with zeros up to 64, and
+-- has counted n bytes.
 unfoldable pub settle : List ℕ → List ℕ → ℕ → Hasher
 settle h b n =
     record {
@@ -15,7 +16,7 @@ settle h b n =
       count = n % 2 ^ 64;
     }
 
--- The state that has absorbed the message m, and nothing else.
+-- 5.3.3 and 6.2.2: the state that has absorbed the message m from the initial hash value on, and nothing else.
 unfoldable pub stateOf : List ℕ → Hasher
 stateOf m = settle H0 m (length m)
 
@@ -23,7 +24,7 @@ stateOf m = settle H0 m (length m)
 unfoldable pub waiting : Hasher → List ℕ
 waiting d = take (d .count % 64) (d .pending ++ replicate 64 0)
 
--- The state d after it absorbs p.
+-- 6.2.2 in part: the state d after it absorbs p.
 unfoldable pub absorbOf : Hasher → List ℕ → Hasher
 absorbOf d p = settle (d .words) (waiting d ++ p) (d .count + length p)
 
@@ -37,10 +38,11 @@ unfoldable pub joined : List (List ℕ) → List ℕ
 joined [] = []
 joined (p ∷ ps) = p ++ joined ps
 
--- The digest of what d has absorbed: d absorbs the padding, and its words are the digest.
+-- 5.1.1 and 6.2.2: the digest of what d has absorbed: d absorbs the padding, and its words are the digest.
 unfoldable pub finishOf : Hasher → List ℕ
 finishOf d = bytes (absorbOf d (padding (d .count)) .words)
 
--- The digest of a message of n bytes whose whole blocks give the hash value h, and leave the bytes b: these are padded and hashed.
+-- 5.1.1 and 6.2.2: the digest of a message of n bytes whose whole blocks give the hash value h, and leave the bytes b: these are padded
+-- and hashed.
 unfoldable pub digestAfter : List ℕ → List ℕ → ℕ → List ℕ
 digestAfter h b n = bytes (hash h (b ++ padding n) (length (b ++ padding n) / 64))

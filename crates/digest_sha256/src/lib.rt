@@ -65,7 +65,7 @@ impl Hasher {
             };
         }
         Hasher {
-            words: digest_block::compress(h, &p),
+            words: digest_block::compress_block(h, &p),
             pending: [0u8; 64],
             count,
         }
@@ -79,7 +79,7 @@ impl Hasher {
         let h = self.words;
         let from = part.len() - part.len() % 64;
         Hasher {
-            words: digest_block::hash(h, part),
+            words: digest_block::hash_blocks(h, part),
             pending: digest_bytes::put([0u8; 64], 0, &part[from..]),
             count: std::num::wrapping_add_u64(self.count, part.len() as u64),
         }
@@ -129,12 +129,12 @@ fn digest_after(h: [u32; 8], rest: &[u8], count: u64) -> [u8; 32]
     b[n] = 0x80;
     if n < 56 {
         digest_bytes::put_length(&mut b, bits);
-        return digest_bytes::bytes(digest_block::compress(h, &b));
+        return digest_bytes::words_to_bytes(digest_block::compress_block(h, &b));
     }
-    let s = digest_block::compress(h, &b);
+    let s = digest_block::compress_block(h, &b);
     b = [0u8; 64];
     digest_bytes::put_length(&mut b, bits);
-    digest_bytes::bytes(digest_block::compress(s, &b))
+    digest_bytes::words_to_bytes(digest_block::compress_block(s, &b))
 }
 
 // The digest of a message of `count` bytes, of the hash value after its first blocks and the bytes behind them.
@@ -144,7 +144,7 @@ fn digest_from(h: [u32; 8], rest: &[u8], count: u64) -> [u8; 32]
 {
     let n = rest.len();
     let from = n - n % 64;
-    digest_after(digest_block::hash(h, rest), &rest[from..], count)
+    digest_after(digest_block::hash_blocks(h, rest), &rest[from..], count)
 }
 
 // The digest of a message that lies in one place.
@@ -164,7 +164,7 @@ pub fn digest_of_two(a: &[u8], b: &[u8]) -> [u8; 32]
     let from = n - fill;
     let k = least(64 - fill, b.len());
     let count = std::num::wrapping_add_u64(n as u64, b.len() as u64);
-    let h = digest_block::hash(H0, a);
+    let h = digest_block::hash_blocks(H0, a);
     let mut p = [0u8; 64];
     bytes::copy(&a[from..], &mut p);
     digest_bytes::put_over(&mut p, fill, &b[..k]);
@@ -172,5 +172,5 @@ pub fn digest_of_two(a: &[u8], b: &[u8]) -> [u8; 32]
     if m < 64 {
         return digest_from(h, &p[..m], count);
     }
-    digest_from(digest_block::compress(h, &p), &b[k..], count)
+    digest_from(digest_block::compress_block(h, &p), &b[k..], count)
 }

@@ -1,6 +1,6 @@
 -- The scan of the flags, sector by sector.
 use mathlib.Core.Path.{_≡_, refl, sym, ap, _∙_}
-use mathlib.Core.Bool.{true, false}
+use mathlib.Core.Bool.{Bool, true, false}
 use mathlib.Core.List.{List, [], _∷_}
 use Prim.Native.Nat.{ℕ, zero, suc, _+_, _-_, _≤_, _<_}
 use native.Mathlib.Numerals.{add-one}
@@ -8,9 +8,10 @@ use native.Mathlib.Omega.{arith}
 use Rattle.flash.specs.declared.Geometry.{Geometry}
 use Rattle.flash.specs.Sizes.{firmware}
 use Rattle.flash_flags.specs.declared.FlagRead.{FlagRead}
+use Rattle.flash_flags.specs.declared.Leg.{Leg}
 use Rattle.flash_flags.specs.declared.Flags.{Flags}
 use Rattle.flash_flags.specs.declared.Flags.the-variants.{AllF, All0}
-use Rattle.flash_flags.specs.SectorFlags.{flagAt, flagsFrom, flags, isF, allF, byFlag, pastZeros, flagsShown, flagsAt}
+use Rattle.flash_flags.specs.SectorFlags.{flagAt, flagsFrom, flags, isF, allF, frontAt, byFlag, pastZeros, flagsShown, flagsAt}
 
 -- ---- the flags from sector i on
 
@@ -53,6 +54,11 @@ pub zeros-by : (g : Geometry) (u : List ℕ) (m i : ℕ) → i < m → (v : Flag
     → r ≡ byFlag i v (allF (flagsFrom g u (m - (i + 1)) (i + 1))) (pastZeros (i + 1) (flagsFrom g u (m - (i + 1)) (i + 1)))
     → pastZeros i (flagsFrom g u (m - i) i) ≡ z → r ≡ z
 zeros-by g u m i h v e r z k q = k ∙ sym (zeros-here g u m i h v e) ∙ q
+
+-- sector i shows a leg, by what the scan r of the flags behind it says
+pub front-shown : (g : Geometry) (u : List ℕ) (i : ℕ) (leg : Leg) (b r : Bool) → r ≡ b → r ≡ allF (flagsFrom g u (firmware g - (i + 1)) (i + 1))
+    → frontAt i leg b ≡ frontAt i leg (allF (flagsFrom g u (firmware g - (i + 1)) (i + 1)))
+front-shown g u i leg b r t e = ap (frontAt i leg) (sym t ∙ e)
 
 pub zeros-end : (g : Geometry) (u : List ℕ) (m i : ℕ) → m ≤ i → pastZeros i (flagsFrom g u (m - i) i) ≡ All0
 unfolding pastZeros

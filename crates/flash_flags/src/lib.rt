@@ -6,7 +6,8 @@ ghost use mathlib.Core.Path.{_≡_};
 ghost use Prim.Native.Nat.{_+_, _-_, _<_};
 ghost use Rattle.flash.specs.Sizes.{firmware, Limits};
 ghost use Rattle.flash.specs.Sectors.{Partition};
-ghost use Rattle.flash_flags.specs.SectorFlags.{flagValue, flagOf, flagByte, half, withHalf, flagAt, setFlag, flagsFrom, flags, isF, allF, frontAt, pastZeros, flagsAt};
+ghost use Rattle.flash_flags.specs.SectorFlags.{flagValue, flagOf, flagByte, half, withHalf, flagAt, setFlag};
+ghost use Rattle.flash_flags.specs.SectorFlags.{flagsFrom, flags, isF, allF, frontAt, pastZeros, flagsAt};
 
 // A firmware sector's flag, document 01's F, 7, 3 and 0: nothing is done; UPDATE's sector is saved in SWAP; BOOT's is moved to UPDATE;
 // the two are exchanged.

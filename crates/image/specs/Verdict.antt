@@ -14,19 +14,20 @@ use Rattle.image.specs.declared.ImageVerdict.the-variants.{Good, Bad}
 use Rattle.numbers.specs.GivenBack.{ownOf}
 use Rattle.image.specs.Check.{imageIn}
 
--- Of a good image's values: its version, its size and its timestamp.
+-- "Power-up", what it needs of a good image's values: its version, its size and its timestamp.
 abbrev pub releaseOf : Header → Release
 releaseOf v = record { version = v .version; size = v .size; timestamp = v .timestamp }
 
--- The check's answer with the release in place of the header.
+-- "Image check", its answer with the release in place of the header.
 abbrev pub released : Answer Header → Answer Release
 released a = then a (λ v. gives (releaseOf v))
 
--- The check as power-up's rules use it: the version of the image in the firmware sectors, or its refusal. The trailer sector has no say.
+-- "Power-up", "check UPDATE" and "check BOOT": the version of the image in the firmware sectors, or its refusal. The trailer sector has
+-- no say.
 unfoldable pub checkOf : Geometry → List ℕ → Answer ℕ
 checkOf g l = then (imageIn (firmwareOf g l)) (λ v. gives (v .version))
 
--- What the code's verdict says: a good image's release, or a bad one's own number and place.
+-- "Numbers given back", what the code's verdict says: a good image's release, or a bad one's own number and place.
 abbrev pub verdictOf : ImageVerdict → Answer Release
 verdictOf (Good r) = gives r
 verdictOf (Bad o) = refused (ownOf o .number) (ownOf o .place)

@@ -29,5 +29,5 @@ unfolding refusal
 puts-refusal n k x y = puts-as (puts-then x y) (sym (append-assoc (named refusedWord n) (named atWord k) (10 ∷ [])))
 
 -- the hint's line, by whether there is one
-pub puts-hint : {d e : List ℕ} {p q : ℕ} {b h : Bool} → h ≡ b → Puts d e p (line (hint b)) q → Puts d e p (line (hint h)) q
-puts-hint same x = rw same x
+pub puts-hint : {d e : List ℕ} {p q : ℕ} {h : Bool} (b : Bool) → h ≡ b → Puts d e p (line (hint b)) q → Puts d e p (line (hint h)) q
+puts-hint b same x = rw same x

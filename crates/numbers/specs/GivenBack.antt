@@ -28,6 +28,7 @@ beside (refused n p) a = refused n p
 abbrev pub refusedAt : ℕ → ℕ → Refused
 refusedAt n p = record { number = n; place = p }
 
+-- The number and the place of an answer.
 abbrev pub refusalOf : {A : Type 0} → Answer A → Refused
 refusalOf (gives a) = refusedAt 0 0
 refusalOf (refused n p) = refusedAt n p
@@ -46,11 +47,13 @@ headerSays (Repeated p) = refused 6 p
 headerSays (NoEnd p) = refused 7 p
 headerSays (Missing t) = refused 8 t
 
+-- The reader's outcome beside the values that it hands out.
 abbrev pub headerAnswer : {A : Type 0} → HeaderOutcome → A → Answer A
 headerAnswer o a = beside (headerSays o) a
 
 -- ---- the writer: 3 and 16
 
+-- A size of 0 is refused where the size stands, at 4.
 abbrev pub writerAnswer : WriteOutcome → Answer (Unit {0})
 writerAnswer Written = gives tt
 writerAnswer OutputTooShort = refused 16 0
@@ -63,12 +66,14 @@ abbrev pub badHeader : {A : Type 0} → Answer (Unit {0}) → Answer A
 badHeader (gives t) = refused 0 0
 badHeader (refused n p) = refused n p
 
+-- Another digest is refused behind the header, at 256.
 abbrev pub imageSays : ImageOutcome → Answer (Unit {0})
 imageSays Good = gives tt
 imageSays OutsideRules = refused 1 0
 imageSays (BadHeader o) = badHeader (headerSays o)
 imageSays WrongDigest = refused 9 256
 
+-- The check's outcome beside the values that it hands out.
 abbrev pub imageAnswer : {A : Type 0} → ImageOutcome → A → Answer A
 imageAnswer o a = beside (imageSays o) a
 
@@ -79,6 +84,7 @@ imageAnswer o a = beside (imageSays o) a
 abbrev pub ownOf : ImageOutcome → Refused
 ownOf o = refusalOf (imageSays o)
 
+-- A refused power-up: 12 and 13 carry number and place of the bad image.
 abbrev pub powerUpSays : PowerUpRefusal → Refusal
 powerUpSays FlashOutside = numbered 1 0
 powerUpSays StatusNotAllowed = numbered 10 0
@@ -104,6 +110,7 @@ reasonRefusal (because n p) = refusedAt n p
 
 -- ---- arm and confirm: 1, 10, 11, 14
 
+-- A refused command; its place is 0.
 abbrev pub commandNumber : CommandRefusal → ℕ
 commandNumber CommandOutside = 1
 commandNumber CommandStatus = 10

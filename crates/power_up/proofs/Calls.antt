@@ -1,4 +1,4 @@
--- Power-up by its first check.
+-- Power-up by its first check, and the answer of a job.
 use mathlib.Core.Path.{_≡_, refl, ap}
 use Prim.Native.Nat.{ℕ}
 use Rattle.numbers.specs.Answer.{gives, refused, numbered}
@@ -9,7 +9,13 @@ use Rattle.flash.proofs.Answers.{flash-asked, flash-fits, flash-unfit}
 use Rattle.flash_status.specs.StatusBytes.{bootStatusAt, updateStatusAt}
 use Rattle.flash_flags.specs.SectorFlags.{flagsAt}
 use Rattle.exchange.specs.Decision.{Check, Plan, decideStatuses, decide}
-use Rattle.exchange.specs.PowerUp.{refusal, idle, carryOut, powerUp}
+use Rattle.exchange.specs.declared.Job.{Job}
+use Rattle.exchange.specs.Order.{Run, nextOperation}
+use Rattle.exchange.specs.PowerUp.{refusal, idle, outcomeBy, worked, carryOut, powerUp}
+use Rattle.numbers.specs.declared.TurnDownReason.{TurnDownReason}
+use Rattle.numbers.specs.GivenBack.{reasonOf}
+use Rattle.power_up.specs.declared.Outcome.{Outcome}
+use Rattle.power_up.specs.Delivered.{outcomeOf, answered}
 
 -- ---- geometry and lengths are outside the rules
 
@@ -26,3 +32,11 @@ module _ (n s : ℕ) (f : Flash) (g : Geometry) (e : gives g ≡ flashOf n s f) 
       → carryOut check g f budget plan ≡ powerUp check (geometry n s) f budget
   unfolding powerUp decide
   power-up-inside check budget plan p = rw (flash-asked n s f g e) (rw (flash-fits n s f g e) (ap (carryOut check g f budget) p))
+
+-- ---- a job is worked on
+
+-- the outcome, the reason and the count beside the flash that the steps left, by their run
+pub job-answered : (check : Check) (g : Geometry) (job : Job) (why : TurnDownReason) (o : Outcome) (n : ℕ) (r x : Run) → r ≡ x
+    → outcomeOf o ≡ outcomeBy (nextOperation job g (r .phase) (r .flash)) job (check g (r .flash .boot)) → n ≡ r .count
+    → answered (record { outcome = o; reason = why; count = n }) (r .flash) ≡ worked check g job (reasonOf why) x
+job-answered check g job why o n r x e eo en = rw (eo, en) (ap (worked check g job (reasonOf why)) e)

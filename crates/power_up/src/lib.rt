@@ -70,7 +70,8 @@ fn done_outcome(job: Job) -> Outcome
 // The outcome of a job whose steps have come to a phase: "cut" where one more is ordered.
 fn outcome_at(g: Geometry, job: Job, phase: u8, boot: &[u8], update: &[u8]) -> Outcome
     requires { ⌜ (Partition g (now boot)) × (Partition g (now update)) ⌝ }
-    ensures { λ r. ⌜ outcomeOf r ≡ outcomeBy (nextBy job g phase (now (boot .entry)) (now (update .entry))) job (checkOf g (now (boot .entry))) ⌝ }
+    ensures { λ r. ⌜ outcomeOf r
+        ≡ outcomeBy (nextBy job g phase (now (boot .entry)) (now (update .entry))) job (checkOf g (now (boot .entry))) ⌝ }
 {
     match exchange_steps::find_next(g, job, phase, boot, update) {
         Next::Do(_) => Outcome::Cut,
@@ -88,7 +89,8 @@ fn do_job(
     budget: u64,
 ) -> PowerUpAnswer
     requires { ⌜ Shaped g (lent boot update swap) ⌝ }
-    ensures { λ r. ⌜ answered r (lent (boot .exit) (update .exit) (swap .exit)) ≡ worked checkOf g job (reasonOf reason) (run job g budget 0 (lent (boot .entry) (update .entry) (swap .entry))) ⌝ }
+    ensures { λ r. ⌜ answered r (lent (boot .exit) (update .exit) (swap .exit))
+        ≡ worked checkOf g job (reasonOf reason) (run job g budget 0 (lent (boot .entry) (update .entry) (swap .entry))) ⌝ }
 {
     let ran = exchange_steps::repeat_step(g, job, boot, update, swap, budget);
     PowerUpAnswer {
@@ -107,7 +109,8 @@ fn carry_out(
     budget: u64,
 ) -> PowerUpAnswer
     requires { ⌜ Shaped g (lent boot update swap) ⌝ }
-    ensures { λ r. ⌜ answered r (lent (boot .exit) (update .exit) (swap .exit)) ≡ carryOut checkOf g (lent (boot .entry) (update .entry) (swap .entry)) budget (planOf plan) ⌝ }
+    ensures { λ r. ⌜ answered r (lent (boot .exit) (update .exit) (swap .exit))
+        ≡ carryOut checkOf g (lent (boot .entry) (update .entry) (swap .entry)) budget (planOf plan) ⌝ }
 {
     match plan {
         Plan::Refuse(refusal) => idle(Outcome::Refused(refusal)),
@@ -125,7 +128,8 @@ pub fn power_up(
     swap: &mut [u8],
     budget: u64,
 ) -> PowerUpAnswer
-    ensures { λ r. ⌜ Delivers sectors size (lent (boot .entry) (update .entry) (swap .entry)) budget r (lent (boot .exit) (update .exit) (swap .exit)) ⌝ }
+    ensures { λ r. ⌜ Delivers sectors size (lent (boot .entry) (update .entry) (swap .entry)) budget
+        r (lent (boot .exit) (update .exit) (swap .exit)) ⌝ }
 {
     match flash::check_flash(sectors, size, boot, update, swap) {
         GeometryAnswer::Fits(g) => {

@@ -56,7 +56,8 @@ fn accept_fallback(g: Geometry, update: &[u8]) -> Plan
 // Only with all flags F are images checked: an exchange that has begun goes on.
 fn decide_update(g: Geometry, boot: &[u8], update: &[u8]) -> Plan
     requires { ⌜ (Partition g (now boot)) × (Partition g (now update)) ⌝ }
-    ensures { λ r. ⌜ planOf r ≡ decideUpdate (flagsAt g (now (update .entry))) (checkOf g (now (update .entry))) (checkOf g (now (boot .entry))) ⌝ }
+    ensures { λ r. ⌜ planOf r
+        ≡ decideUpdate (flagsAt g (now (update .entry))) (checkOf g (now (update .entry))) (checkOf g (now (boot .entry))) ⌝ }
 {
     match flash_flags::read_flags(g, update) {
         Flags::Malformed => Plan::Refuse(PowerUpRefusal::FlagsMalformed),
@@ -94,7 +95,8 @@ fn decide_closing(g: Geometry, update: &[u8]) -> Plan
 // By the two statuses. Where UPDATE is NEW and BOOT is not TESTING the flags are not read.
 fn decide_by(g: Geometry, b: BootStatus, u: UpdateStatus, boot: &[u8], update: &[u8]) -> Plan
     requires { ⌜ (Partition g (now boot)) × (Partition g (now update)) ⌝ }
-    ensures { λ r. ⌜ planOf r ≡ decideBy b u (flagsAt g (now (update .entry))) (checkOf g (now (update .entry))) (checkOf g (now (boot .entry))) ⌝ }
+    ensures { λ r. ⌜ planOf r
+        ≡ decideBy b u (flagsAt g (now (update .entry))) (checkOf g (now (update .entry))) (checkOf g (now (boot .entry))) ⌝ }
 {
     match u {
         UpdateStatus::New => match b {

@@ -28,13 +28,13 @@ use Rattle.c_power_up.specs.declared.Ended.{Ended}
 use Rattle.c_headers.specs.Rows.{headerNumbers, bytesOf, tagRow}
 use Rattle.c_power_up.specs.Outcomes.{endedOf, countOf, powerRow}
 use Rattle.numbers.proofs.Refusals.{beside-refusal}
-use Rattle.tainhosa.specs.Headers.{Given, given, laidOut, readAnswer, checkAnswer, Wrote, wrote, writeAnswer}
-use Rattle.tainhosa.specs.Walking.{Walked, tagAnswer}
-use Rattle.tainhosa.specs.Loading.{Loaded, poweredUp, powerUpAnswer, obeyed, commandAnswer}
+use Rattle.tainhosa.specs.Headers.{afterHeader, given, laidOut, readAnswer, checkAnswer, afterWrite, wrote, writeAnswer}
+use Rattle.tainhosa.specs.Walking.{afterTag, tagAnswer}
+use Rattle.tainhosa.specs.Loading.{afterCall, poweredUp, powerUpAnswer, obeyed, commandAnswer}
 
 -- a header's values in buffers of their lengths
 pub laid : (n b n′ b′ : List ℕ) (x : Refused) (v : Header) → length n ≡ 6 → length b ≡ 128 → n′ ≡ headerNumbers (x .place) v → b′ ≡ bytesOf v
-    → _≡_ {A = Given} (record { answer = x .number; numbers = n′; bytes = b′ }) (given x v n b)
+    → afterHeader (x .number) n′ b′ ≡ given x v n b
 laid n b n′ b′ x v p q en eb = rw (eq-eqb (length n) 6 p, eq-eqb (length b) 128 q, en, eb)
 
 -- what the reader and the check answer, in the caller's buffers
@@ -62,19 +62,16 @@ one (y ∷ z ∷ zs) x h = absurd (omega arith)
 -- a header written
 pub written : (out b row row′ : List ℕ) (v : Header) (w : Write) (x : Refused) → length b ≡ 128 → length row ≡ 1 → w ≡ writeHeader v out
     → x ≡ refusalOf (w .answer) → row′ ≡ x .place ∷ []
-    → _≡_ {A = Wrote} (record { answer = x .number; out = w .bytes; row = row′ }) (writeAnswer out v b row)
+    → afterWrite (x .number) (w .bytes) row′ ≡ writeAnswer out v b row
 written out b row row′ v w x p q e ex er = rw (eq-eqb (length b) 128 p, eq-eqb (length row) 1 q, er, ex) (ap wrote e)
 
 -- a tag in a row of its length
-abbrev walk : ℕ → List ℕ → Walked
-walk n r = record { answer = n; row = r }
-
 pub walked-on : (s : List ℕ) (p : ℕ) (row row′ : List ℕ) (a : Answer Item) (x next : ℕ) → length row ≡ 6
     → a ≡ walkAt s p → next ≡ placeBehind (walkAt s p) p → row′ ≡ tagRow a next → x ≡ refusalOf a .number
-    → walk x row′ ≡ tagAnswer s p row
+    → afterTag x row′ ≡ tagAnswer s p row
 walked-on s p row row′ a x next h e en er ex =
     rw (eq-eqb (length row) 6 h)
-    (ap₂ walk (ex ∙ ap (λ (i : Answer Item). refusalOf i .number) e) (er ∙ ap₂ tagRow e en))
+    (ap₂ afterTag (ex ∙ ap (λ (i : Answer Item). refusalOf i .number) e) (er ∙ ap₂ tagRow e en))
 
 -- ---- power-up, arm and confirm
 
@@ -82,10 +79,10 @@ module _ (f f′ : Flash) (row row′ : List ℕ) where
   pub powered-up : (n s budget : ℕ) (r : PowerUpAnswer) (e : Ended) (why : Refused) → length row ≡ 6
       → answered r f′ ≡ powerUp checkOf (geometry n s) f budget → e ≡ endedOf (outcomeOf (r .outcome))
       → why ≡ reasonRefusal (reasonOf (r .reason)) → row′ ≡ powerRow e (r .count) why
-      → _≡_ {A = Loaded} (record { answer = e .number; row = row′; flash = f′ }) (powerUpAnswer n s f budget row)
+      → afterCall (e .number) row′ f′ ≡ powerUpAnswer n s f budget row
   powered-up n s budget r e why h p ee ew er = rw (eq-eqb (length row) 6 h, er, ee, ew) (ap poweredUp p)
 
   pub commanded-on : (c : Command) (r : CommandAnswer) (x k : ℕ) → length row ≡ 1 → commanded r f′ ≡ c
       → x ≡ refusalOf (commandOf r) .number → k ≡ countOf (commandOf r) → row′ ≡ k ∷ []
-      → _≡_ {A = Loaded} (record { answer = x; row = row′; flash = f′ }) (commandAnswer c f row)
+      → afterCall x row′ f′ ≡ commandAnswer c f row
   commanded-on c r x k h p ex ek er = rw (eq-eqb (length row) 1 h, er, ex, ek) (ap obeyed p)

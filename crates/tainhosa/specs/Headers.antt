@@ -19,20 +19,26 @@ pub record Given : Type 0 where
   pub numbers : List ℕ
   pub bytes : List ℕ
 
+-- The call answers r and leaves the numbers n and the bytes b.
+abbrev pub afterHeader : ℕ → List ℕ → List ℕ → Given
+afterHeader r n b = record { answer = r; numbers = n; bytes = b }
+
 -- A refusal or none, and a header's values, in buffers of 6 numbers and 128 bytes; else 1, and both stay as they were.
 abbrev pub given : Refused → Header → List ℕ → List ℕ → Given
 given x v n b =
     cond (eqb (length n) 6 && eqb (length b) 128)
-    (record { answer = x .number; numbers = headerNumbers (x .place) v; bytes = bytesOf v })
-    (record { answer = 1; numbers = n; bytes = b })
+    (afterHeader (x .number) (headerNumbers (x .place) v) (bytesOf v))
+    (afterHeader 1 n b)
 
 -- 0 and the header's values, or a refusal, its place, and blank values.
 abbrev pub laidOut : Answer Header → List ℕ → List ℕ → Given
 laidOut a n b = given (refusalOf a) (valuesOf a) n b
 
+-- "The header": what the reader says of the bytes s.
 abbrev pub readAnswer : List ℕ → List ℕ → List ℕ → Given
 readAnswer s n b = laidOut (readHeader s) n b
 
+-- "Image check": what it says of a partition l of this many sectors of this size.
 abbrev pub checkAnswer : ℕ → ℕ → List ℕ → List ℕ → List ℕ → Given
 checkAnswer sectors size l n b = laidOut (checkImage sectors size l) n b
 
@@ -56,11 +62,15 @@ pub record Wrote : Type 0 where
   pub out : List ℕ
   pub row : List ℕ
 
+-- The call answers r and leaves the output and the row.
+abbrev pub afterWrite : ℕ → List ℕ → List ℕ → Wrote
+afterWrite r out row = record { answer = r; out = out; row = row }
+
 -- 0, or a refusal; the row is its place, 0 where there is none.
 abbrev pub wrote : Write → Wrote
-wrote w = record { answer = refusalOf (w .answer) .number; out = w .bytes; row = refusalOf (w .answer) .place ∷ [] }
+wrote w = afterWrite (refusalOf (w .answer) .number) (w .bytes) (refusalOf (w .answer) .place ∷ [])
 
 -- The bytes b are 128, and the row has 1 number; else 1, and output and row stay as they were.
 abbrev pub writeAnswer : List ℕ → Header → List ℕ → List ℕ → Wrote
 writeAnswer out v b row =
-    cond (eqb (length b) 128 && eqb (length row) 1) (wrote (writeHeader v out)) (record { answer = 1; out = out; row = row })
+    cond (eqb (length b) 128 && eqb (length row) 1) (wrote (writeHeader v out)) (afterWrite 1 out row)

@@ -20,18 +20,18 @@ pub record Loaded : Type 0 where
   pub row : List ℕ
   pub flash : Flash
 
+-- The call answers r and leaves the row and the flash f.
+abbrev pub afterCall : ℕ → List ℕ → Flash → Loaded
+afterCall r row f = record { answer = r; row = row; flash = f }
+
 -- What the library's power-up answers and leaves, in a row of the right length.
 abbrev pub poweredUp : PowerUp → Loaded
 poweredUp p =
-    record {
-      answer = endedOf (p .outcome) .number;
-      row = powerRow (endedOf (p .outcome)) (p .count) (reasonRefusal (p .reason));
-      flash = p .flash;
-    }
+    afterCall (endedOf (p .outcome) .number) (powerRow (endedOf (p .outcome)) (p .count) (reasonRefusal (p .reason))) (p .flash)
 
 -- A row of another length is 1, before anything else; it stays as it was, and so does the flash.
 abbrev pub wrongRow : List ℕ → Flash → Loaded
-wrongRow row f = record { answer = 1; row = row; flash = f }
+wrongRow row f = afterCall 1 row f
 
 -- The row of a power-up has 6 numbers.
 abbrev pub powerUpAnswer : ℕ → ℕ → Flash → ℕ → List ℕ → Loaded
@@ -42,14 +42,16 @@ powerUpAnswer n s f budget row =
 
 -- What the library's arm or confirm answers and leaves: the row is the count, 0 beside a refusal.
 abbrev pub obeyed : Command → Loaded
-obeyed c = record { answer = refusalOf (c .answer) .number; row = countOf (c .answer) ∷ []; flash = c .flash }
+obeyed c = afterCall (refusalOf (c .answer) .number) (countOf (c .answer) ∷ []) (c .flash)
 
 -- The row of a command has 1 number.
 abbrev pub commandAnswer : Command → Flash → List ℕ → Loaded
 commandAnswer c f row = cond (eqb (length row) 1) (obeyed c) (wrongRow row f)
 
+-- "Arm": asked for n sectors of s bytes, on the flash f.
 abbrev pub armAnswer : ℕ → ℕ → Flash → List ℕ → Loaded
 armAnswer n s f row = commandAnswer (armCommand (geometry n s) f) f row
 
+-- "Confirm": asked for n sectors of s bytes, on the flash f.
 abbrev pub confirmAnswer : ℕ → ℕ → Flash → List ℕ → Loaded
 confirmAnswer n s f row = commandAnswer (confirmCommand (geometry n s) f) f row

@@ -14,9 +14,14 @@ pub record Walked : Type 0 where
   pub answer : ℕ
   pub row : List ℕ
 
+-- The call answers r and leaves the row.
+abbrev pub afterTag : ℕ → List ℕ → Walked
+afterTag r row = record { answer = r; row = row }
+
+-- What a walk on from p answers: 0 or the refusal's number; and the row of the tag, which ends with the place to go on from.
 abbrev pub walked : Answer Item → ℕ → Walked
-walked a p = record { answer = refusalOf a .number; row = tagRow a (placeBehind a p) }
+walked a p = afterTag (refusalOf a .number) (tagRow a (placeBehind a p))
 
 -- The row has 6 numbers; else 1, and it stays as it was.
 abbrev pub tagAnswer : List ℕ → ℕ → List ℕ → Walked
-tagAnswer s p row = cond (eqb (length row) 6) (walked (walkAt s p) p) (record { answer = 1; row = row })
+tagAnswer s p row = cond (eqb (length row) 6) (walked (walkAt s p) p) (afterTag 1 row)

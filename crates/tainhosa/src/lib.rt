@@ -4,10 +4,10 @@ use header_reader::Header;
 use numbers::Refused;
 ghost use mathlib.Core.Path.{_≡_};
 ghost use Rattle.flash.specs.Buffers.{lent};
-ghost use Rattle.tainhosa.specs.Digest.{sha256Answer};
-ghost use Rattle.tainhosa.specs.Headers.{given, readAnswer, checkAnswer, valuesFrom, writeAnswer};
-ghost use Rattle.tainhosa.specs.Walking.{tagAnswer};
-ghost use Rattle.tainhosa.specs.Loading.{powerUpAnswer, armAnswer, confirmAnswer};
+ghost use Rattle.tainhosa.specs.Digest.{afterDigest, sha256Answer};
+ghost use Rattle.tainhosa.specs.Headers.{afterHeader, given, readAnswer, checkAnswer, valuesFrom, afterWrite, writeAnswer};
+ghost use Rattle.tainhosa.specs.Walking.{afterTag, tagAnswer};
+ghost use Rattle.tainhosa.specs.Loading.{afterCall, powerUpAnswer, armAnswer, confirmAnswer};
 
 // How many numbers and bytes a header's values are.
 const HEADER_NUMBERS: usize = 6;
@@ -31,7 +31,7 @@ const WRONG_LENGTH: u32 = 1;
 // The SHA-256 digest of the message, into the 32 bytes of digest.
 #[no_mangle]
 pub extern "C" fn tainhosa_sha256(message: &[u8], digest: &mut [u8]) -> u32
-    ensures { λ r. ⌜ record { answer = r; bytes = now (digest .exit) } ≡ sha256Answer (now (message .entry)) (now (digest .entry)) ⌝ }
+    ensures { λ r. ⌜ afterDigest r (now (digest .exit)) ≡ sha256Answer (now (message .entry)) (now (digest .entry)) ⌝ }
 {
     if digest.len() != DIGEST_BYTES {
         return WRONG_LENGTH;
@@ -43,7 +43,8 @@ pub extern "C" fn tainhosa_sha256(message: &[u8], digest: &mut [u8]) -> u32
 
 // A refusal or none, and a header's values, into the caller's buffers.
 fn give(numbers: &mut [u64], bytes: &mut [u8], refused: Refused, v: Header) -> u32
-    ensures { λ r. ⌜ record { answer = r; numbers = now (numbers .exit); bytes = now (bytes .exit) } ≡ given refused v (now (numbers .entry)) (now (bytes .entry)) ⌝ }
+    ensures { λ r. ⌜ afterHeader r (now (numbers .exit)) (now (bytes .exit))
+        ≡ given refused v (now (numbers .entry)) (now (bytes .entry)) ⌝ }
 {
     if numbers.len() != HEADER_NUMBERS {
         return WRONG_LENGTH;
@@ -58,7 +59,8 @@ fn give(numbers: &mut [u64], bytes: &mut [u8], refused: Refused, v: Header) -> u
 // Reads the header in the first 256 bytes of the input.
 #[no_mangle]
 pub extern "C" fn tainhosa_read_header(input: &[u8], numbers: &mut [u64], bytes: &mut [u8]) -> u32
-    ensures { λ r. ⌜ record { answer = r; numbers = now (numbers .exit); bytes = now (bytes .exit) } ≡ readAnswer (now (input .entry)) (now (numbers .entry)) (now (bytes .entry)) ⌝ }
+    ensures { λ r. ⌜ afterHeader r (now (numbers .exit)) (now (bytes .exit))
+        ≡ readAnswer (now (input .entry)) (now (numbers .entry)) (now (bytes .entry)) ⌝ }
 {
     let read = header_reader::read_header(input);
     let outcome = read.outcome;
@@ -75,7 +77,8 @@ pub extern "C" fn tainhosa_check_image(
     numbers: &mut [u64],
     bytes: &mut [u8],
 ) -> u32
-    ensures { λ r. ⌜ record { answer = r; numbers = now (numbers .exit); bytes = now (bytes .exit) } ≡ checkAnswer sectors size (now (partition .entry)) (now (numbers .entry)) (now (bytes .entry)) ⌝ }
+    ensures { λ r. ⌜ afterHeader r (now (numbers .exit)) (now (bytes .exit))
+        ≡ checkAnswer sectors size (now (partition .entry)) (now (numbers .entry)) (now (bytes .entry)) ⌝ }
 {
     let checked = image::check_image(sectors, size, partition);
     let outcome = checked.outcome;
@@ -96,7 +99,9 @@ pub extern "C" fn tainhosa_write_header(
     bytes: &[u8],
     place: &mut [u64],
 ) -> u32
-    ensures { λ r. ⌜ record { answer = r; out = now (out .exit); row = now (place .exit) } ≡ writeAnswer (now (out .entry)) (valuesFrom size version timestamp «auth_type» «has_hint» (now (bytes .entry))) (now (bytes .entry)) (now (place .entry)) ⌝ }
+    ensures { λ r. ⌜ afterWrite r (now (out .exit)) (now (place .exit))
+        ≡ writeAnswer (now (out .entry)) (valuesFrom size version timestamp «auth_type» «has_hint» (now (bytes .entry)))
+        (now (bytes .entry)) (now (place .entry)) ⌝ }
 {
     if bytes.len() != HEADER_BYTES {
         return WRONG_LENGTH;
@@ -125,7 +130,7 @@ pub extern "C" fn tainhosa_write_header(
 // The tag from a place of a header on, and the place to go on from.
 #[no_mangle]
 pub extern "C" fn tainhosa_next_tag(input: &[u8], at: usize, tag: &mut [u64]) -> u32
-    ensures { λ r. ⌜ record { answer = r; row = now (tag .exit) } ≡ tagAnswer (now (input .entry)) at (now (tag .entry)) ⌝ }
+    ensures { λ r. ⌜ afterTag r (now (tag .exit)) ≡ tagAnswer (now (input .entry)) at (now (tag .entry)) ⌝ }
 {
     if tag.len() != TAG_NUMBERS {
         return WRONG_LENGTH;
@@ -148,7 +153,8 @@ pub extern "C" fn tainhosa_power_up(
     budget: u64,
     answer: &mut [u64],
 ) -> u32
-    ensures { λ r. ⌜ record { answer = r; row = now (answer .exit); flash = lent (boot .exit) (update .exit) (swap .exit) } ≡ powerUpAnswer sectors size (lent (boot .entry) (update .entry) (swap .entry)) budget (now (answer .entry)) ⌝ }
+    ensures { λ r. ⌜ afterCall r (now (answer .exit)) (lent (boot .exit) (update .exit) (swap .exit))
+        ≡ powerUpAnswer sectors size (lent (boot .entry) (update .entry) (swap .entry)) budget (now (answer .entry)) ⌝ }
 {
     if answer.len() != POWER_UP_NUMBERS {
         return WRONG_LENGTH;
@@ -180,7 +186,8 @@ pub extern "C" fn tainhosa_arm(
     swap: &mut [u8],
     count: &mut [u64],
 ) -> u32
-    ensures { λ r. ⌜ record { answer = r; row = now (count .exit); flash = lent (boot .exit) (update .exit) (swap .exit) } ≡ armAnswer sectors size (lent (boot .entry) (update .entry) (swap .entry)) (now (count .entry)) ⌝ }
+    ensures { λ r. ⌜ afterCall r (now (count .exit)) (lent (boot .exit) (update .exit) (swap .exit))
+        ≡ armAnswer sectors size (lent (boot .entry) (update .entry) (swap .entry)) (now (count .entry)) ⌝ }
 {
     if count.len() != COMMAND_NUMBERS {
         return WRONG_LENGTH;
@@ -201,7 +208,8 @@ pub extern "C" fn tainhosa_confirm(
     swap: &mut [u8],
     count: &mut [u64],
 ) -> u32
-    ensures { λ r. ⌜ record { answer = r; row = now (count .exit); flash = lent (boot .exit) (update .exit) (swap .exit) } ≡ confirmAnswer sectors size (lent (boot .entry) (update .entry) (swap .entry)) (now (count .entry)) ⌝ }
+    ensures { λ r. ⌜ afterCall r (now (count .exit)) (lent (boot .exit) (update .exit) (swap .exit))
+        ≡ confirmAnswer sectors size (lent (boot .entry) (update .entry) (swap .entry)) (now (count .entry)) ⌝ }
 {
     if count.len() != COMMAND_NUMBERS {
         return WRONG_LENGTH;

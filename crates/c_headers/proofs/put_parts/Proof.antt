@@ -10,7 +10,8 @@ returns : tie.Need-returns
 returns c =
     let c7 = c .before .before .before .before .before .before .before in
     let c12 = c7 .before .before .before .before .before in
-    filled (puts-then (c12 .put .ensures) (puts-then (c7 .put2 .ensures) (c .before .before .put3 .ensures))) (simp length-append (omega arith))
+    let x = c .before .before .put3 in
+    filled {q = x .result} (puts-then (c12 .put .ensures) (puts-then (c7 .put2 .ensures) (x .ensures))) (simp length-append (omega arith))
 
 pub put-parts-spec : {M : Type 1} → statement M
 put-parts-spec =

@@ -20,7 +20,7 @@ loop-holds c = (omega arith, search needs, refl)
 
 loop-again : tie.Need-loop-again Inv-loop μ-loop
 loop-again c = let l = c .before .before .loop in
-    (omega arith, simp length-set (l .inv .1), first-more (word _) _ _ (omega arith) (l .inv .2) (c .word .ensures))
+    (omega arith, simp length-set (l .inv .1), first-more (word _) _ _ (omega arith) (l .inv .2) (c .read-word .ensures))
 
 returns : tie.Need-returns Inv-loop μ-loop
 unfolding words

@@ -16,11 +16,11 @@ returns c =
     let c11 = c8 .before .before .before in
     let s = c11 .args in
     let t = marked-law (s .rest .now) (omega arith) (c8 .copy .ensures .1) refl in
-    c .bytes .ensures
-    ∙ ap bytes (ends-law (s .h) (s .rest .now) (s .count) (c11 .pre) (omega arith) t (c4 .put-length .ensures) (c .before .compress .ensures))
+    c .words-to-bytes .ensures
+    ∙ ap bytes (ends-law (s .h) (s .rest .now) (s .count) (c11 .pre) (omega arith) t (c4 .put-length .ensures) (c .before .compress-block .ensures))
 
-compress-requires-2 : tie.Need-compress-requires-2
-compress-requires-2 c κs = simp length-set (omega arith)
+compress-block-requires-2 : tie.Need-compress-block-requires-2
+compress-block-requires-2 c κs = simp length-set (omega arith)
 
 returns-2 : tie.Need-returns-2
 unfolding digestAfter
@@ -31,8 +31,8 @@ returns-2 c =
     let c13 = c10 .before .before .before in
     let s = c13 .args in
     let t = marked-law (s .rest .now) (omega arith) (c10 .copy .ensures .1) refl in
-    c .bytes2 .ensures
-    ∙ ap bytes (more-law (s .h) (s .rest .now) (s .count) (c13 .pre) (omega arith) t (c6 .compress2 .ensures) (c4 .put-length2 .ensures) (c .before .compress3 .ensures))
+    c .words-to-bytes2 .ensures
+    ∙ ap bytes (more-law (s .h) (s .rest .now) (s .count) (c13 .pre) (omega arith) t (c6 .compress-block2 .ensures) (c4 .put-length2 .ensures) (c .before .compress-block3 .ensures))
 
 pub digest-after-spec : {M : Type 1} → statement M
 digest-after-spec =
@@ -48,7 +48,7 @@ digest-after-spec =
     (λ c κs. search needs)
     returns
     (λ c. search needs)
-    compress-requires-2
+    compress-block-requires-2
     (λ c. search needs)
     (λ c κs. search needs)
     (λ c. search needs)

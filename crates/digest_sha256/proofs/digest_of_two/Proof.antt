@@ -44,7 +44,7 @@ returns c =
     let c13 = c11 .before .before in
     let a = c13 .before .before .before .args in
     let k = c13 .least in
-    short-law (a .a .now) (a .b .now) (c11 .hash .ensures) (c11 .before .wrapping-add-u64 .ensures) (omega arith) (k .ensures .1) refl (c8 .copy .ensures .1) (c4 .put-over .ensures)
+    short-law (a .a .now) (a .b .now) (c11 .hash-blocks .ensures) (c11 .before .wrapping-add-u64 .ensures) (omega arith) (k .ensures .1) refl (c8 .copy .ensures .1) (c4 .put-over .ensures)
     (all-in (length (a .a .now) % 64) (k .result) (length (a .b .now)) (k .ensures .1) (k .ensures .2) (c .before .before .if1 .taken)) (c .digest-from .ensures)
 
 digest-from-requires-2 : tie.Need-digest-from-requires-2
@@ -64,8 +64,8 @@ returns-2 c =
     let c15 = c13 .before .before in
     let a = c15 .before .before .before .args in
     let k = c15 .least in
-    full-law (a .a .now) (a .b .now) (c13 .hash .ensures) (c13 .before .wrapping-add-u64 .ensures) (omega arith) (k .ensures .1) refl (c10 .copy .ensures .1) (c6 .put-over .ensures)
-    (omega arith) (c .before .before .compress .ensures) (c .digest-from2 .ensures)
+    full-law (a .a .now) (a .b .now) (c13 .hash-blocks .ensures) (c13 .before .wrapping-add-u64 .ensures) (omega arith) (k .ensures .1) refl (c10 .copy .ensures .1) (c6 .put-over .ensures)
+    (omega arith) (c .before .before .compress-block .ensures) (c .digest-from2 .ensures)
 
 pub digest-of-two-spec : {M : Type 1} → statement M
 digest-of-two-spec =

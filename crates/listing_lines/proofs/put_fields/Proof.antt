@@ -10,8 +10,14 @@ returns c =
     let p₃ = p₄ .before .before .before .before .before .before in
     let p₂ = p₃ .before .before .before .before .before in
     let p₁ = p₂ .before .before .before .before .before .before in
-    let s = p₁ .before .before .before .before .before in (
-      puts-fields (s .args .v) (p₁ .put-line .ensures .0) (p₂ .put-line2 .ensures .0) (p₃ .put-line3 .ensures .0) (p₄ .put-line4 .ensures .0) (c .before .before .put-hint .ensures .0),
+    let s = p₁ .before .before .before .before .before in
+    let x₁ = p₁ .put-line in
+    let x₂ = p₂ .put-line2 in
+    let x₃ = p₃ .put-line3 in
+    let x₄ = p₄ .put-line4 in
+    let x₅ = c .before .before .put-hint in (
+      puts-fields {p₁ = x₁ .result} {p₂ = x₂ .result} {p₃ = x₃ .result} {p₄ = x₄ .result} {p₅ = x₅ .result} (s .args .v)
+          (x₁ .ensures .0) (x₂ .ensures .0) (x₃ .ensures .0) (x₄ .ensures .0) (x₅ .ensures .0),
       search needs,
     )
 

@@ -10,23 +10,23 @@ abbrev carrying : ℕ → Refused → RefusedInside
 carrying n own = record { number = n; inner = own .number; place = own .place }
 
 returns : tie.Need-returns
-returns c = rw (c .before .before .enum-told .given .1) (c .within .ensures ∙ ap (carrying 1) (c .before .refuse .ensures))
+returns c = rw (c .before .before .enum-told .given .1) (c .within .ensures ∙ ap (carrying _) (c .before .refuse .ensures))
 
 returns-2 : tie.Need-returns-2
-returns-2 c = rw (c .before .before .enum-told2 .given .1) (c .within2 .ensures ∙ ap (carrying 10) (c .before .refuse2 .ensures))
+returns-2 c = rw (c .before .before .enum-told2 .given .1) (c .within2 .ensures ∙ ap (carrying _) (c .before .refuse2 .ensures))
 
 returns-3 : tie.Need-returns-3
-returns-3 c = rw (c .before .before .enum-told3 .given .1) (c .within3 .ensures ∙ ap (carrying 11) (c .before .refuse3 .ensures))
+returns-3 c = rw (c .before .before .enum-told3 .given .1) (c .within3 .ensures ∙ ap (carrying _) (c .before .refuse3 .ensures))
 
 returns-4 : tie.Need-returns-4
 returns-4 c =
     let c3 = c .before .before .before in
-    rw (c3 .r .given .1) (c .within4 .ensures ∙ ap (carrying 12) (c .before .of-image .ensures))
+    rw (c3 .r .given .1) (c .within4 .ensures ∙ ap (carrying _) (c .before .of-image .ensures))
 
 returns-5 : tie.Need-returns-5
 returns-5 c =
     let c3 = c .before .before .before in
-    rw (c3 .r2 .given .1) (c .within5 .ensures ∙ ap (carrying 13) (c .before .of-image2 .ensures))
+    rw (c3 .r2 .given .1) (c .within5 .ensures ∙ ap (carrying _) (c .before .of-image2 .ensures))
 
 pub of-power-up-spec : {M : Type 1} → statement M
 of-power-up-spec =

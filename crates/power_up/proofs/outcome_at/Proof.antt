@@ -1,4 +1,4 @@
-use mathlib.Core.Path.{sym, ap, _∙_}
+use mathlib.Core.Path.{refl, sym, ap, _∙_}
 use Rattle.exchange.specs.PowerUp.{Outcome, ifBootGood}
 use Rattle.image.specs.Verdict.{checkOf}
 use borrow.Author.Needs.{needs}
@@ -6,7 +6,7 @@ use Rattle.power_up.proofs.outcome_at.Statement.{statement}
 use Rattle.power_up.proofs.outcome_at.Tie as tie
 
 returns : tie.Need-returns
-returns c = rw (sym (c .before .before .find-next .ensures) ∙ c .enum-told .given .1)
+returns c = rw (sym (c .before .before .find-next .ensures) ∙ c .enum-told .given .1) refl
 
 returns-2 : tie.Need-returns-2
 returns-2 c =

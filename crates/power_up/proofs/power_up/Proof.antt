@@ -1,11 +1,9 @@
-use mathlib.Core.Path.{ap, _∙_}
+use mathlib.Core.Path.{_∙_}
 use Rattle.flash.specs.Buffers.{flash}
 use Rattle.flash.proofs.Checked.{boot-partition, update-partition}
 use Rattle.flash.proofs.Answers.{flash-given}
 use Rattle.image.specs.Verdict.{checkOf}
 use Rattle.power_up_decision.specs.Inner.{planOf}
-use Rattle.power_up.specs.declared.PowerUpAnswer.{PowerUpAnswer}
-use Rattle.power_up.specs.Delivered.{answered}
 use Rattle.power_up.proofs.Calls.{power-up-inside, power-up-outside}
 use borrow.Author.Needs.{needs}
 use Rattle.power_up.proofs.power_up.Statement.{statement}
@@ -40,8 +38,8 @@ returns-2 c =
     let c3 = c .before .before .before in
     let c10 = c3 .before .before .before .before .before .before .before in
     let a = c10 .args in
-    ap (λ (x : PowerUpAnswer). answered x (flash (a .boot .now) (a .update .now) (a .swap .now))) (c .idle .ensures)
-    ∙ power-up-outside (a .sectors) (a .size) (flash (a .boot .now) (a .update .now) (a .swap .now)) (rw (c .before .enum-told .given .1) at (c3 .check-flash .ensures)) checkOf (a .budget)
+    rw (c .idle .ensures)
+    (power-up-outside (a .sectors) (a .size) (flash (a .boot .now) (a .update .now) (a .swap .now)) (rw (c .before .enum-told .given .1) at (c3 .check-flash .ensures)) checkOf (a .budget))
 
 pub power-up-spec : {M : Type 1} → statement M
 power-up-spec =

@@ -1,3 +1,5 @@
+use mathlib.Core.Path.{refl}
+use native.Mathlib.Omega.{arith}
 use borrow.Author.Tests.{ne-eqb}
 use lib.ListN.{length}
 use Rattle.flash.specs.Buffers.{flash}
@@ -9,7 +11,7 @@ use Rattle.tainhosa.proofs.tainhosa_confirm.Tie as tie
 returns : tie.Need-returns
 returns c =
     let c5 = c .before .before .before .before .before in
-    simp (ne-eqb (length (c5 .args .count .now)) 1 (c .if1 .taken))
+    simp (ne-eqb (length (c5 .args .count .now)) 1 (omega arith)) refl
 
 returns-2 : tie.Need-returns-2
 returns-2 c =

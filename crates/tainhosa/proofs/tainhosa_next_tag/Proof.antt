@@ -1,7 +1,8 @@
+use native.Mathlib.Omega.{arith}
 use borrow.Author.Tests.{ne-eqb}
 use lib.ListN.{length}
 use Rattle.tainhosa.proofs.Answers.{walked-on}
-use mathlib.Core.Path.{_∙_}
+use mathlib.Core.Path.{refl, _∙_}
 use borrow.Author.Needs.{needs}
 use Rattle.tainhosa.proofs.tainhosa_next_tag.Statement.{statement}
 use Rattle.tainhosa.proofs.tainhosa_next_tag.Tie as tie
@@ -9,7 +10,7 @@ use Rattle.tainhosa.proofs.tainhosa_next_tag.Tie as tie
 returns : tie.Need-returns
 returns c =
     let c3 = c .before .before .before in
-    simp (ne-eqb (length (c3 .args .tag .now)) 6 (c .if1 .taken))
+    simp (ne-eqb (length (c3 .args .tag .now)) 6 (omega arith)) refl
 
 returns-2 : tie.Need-returns-2
 returns-2 c =

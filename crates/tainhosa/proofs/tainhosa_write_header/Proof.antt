@@ -1,3 +1,5 @@
+use mathlib.Core.Path.{refl}
+use native.Mathlib.Omega.{arith}
 use borrow.Author.Tests.{eq-eqb, ne-eqb}
 use lib.ListN.{length}
 use Rattle.tainhosa.proofs.Answers.{one, written}
@@ -8,12 +10,12 @@ use Rattle.tainhosa.proofs.tainhosa_write_header.Tie as tie
 returns : tie.Need-returns
 returns c =
     let a = c .before .before .before .before .args in
-    simp (ne-eqb (length (a .bytes .now)) 128 (c .if1 .taken))
+    simp (ne-eqb (length (a .bytes .now)) 128 (omega arith)) refl
 
 returns-2 : tie.Need-returns-2
 returns-2 c =
     let a = c .before .before .before .before .before .args in
-    simp (eq-eqb (length (a .bytes .now)) 128 (c .before .if1 .left), ne-eqb (length (a .place .now)) 1 (c .if2 .taken))
+    simp (eq-eqb (length (a .bytes .now)) 128 (omega arith), ne-eqb (length (a .place .now)) 1 (omega arith)) refl
 
 returns-3 : tie.Need-returns-3
 returns-3 c =

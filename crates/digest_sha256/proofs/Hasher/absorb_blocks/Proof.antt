@@ -7,7 +7,7 @@ use Rattle.digest_sha256.proofs.Hasher.absorb_blocks.Tie as tie
 returns : tie.Need-returns
 returns c =
     let s = c .before .before .before .before .before .before in
-    blocks-law (s .args .self) (s .args .part .now) (s .pre) refl (c .before .before .before .hash .ensures) (c .before .put .ensures) (c .wrapping-add-u64 .ensures)
+    blocks-law (s .args .self) (s .args .part .now) (s .pre) refl (c .before .before .before .hash-blocks .ensures) (c .before .put .ensures) (c .wrapping-add-u64 .ensures)
 
 pub absorb-blocks-spec : {M : Type 1} → statement M
 absorb-blocks-spec =

@@ -15,7 +15,7 @@ returns-2 : tie.Need-returns-2
 unfolding waiting
 returns-2 c =
     let s = c .before .before .before .before .before .before .before .before .before in
-    full-law (s .args .self) (s .args .part .now) (omega arith) (c .before .before .before .join .ensures) (c .compress .ensures) (c .before .before .before .before .before .wrapping-add-u64 .ensures)
+    full-law (s .args .self) (s .args .part .now) (omega arith) (c .before .before .before .join .ensures) (c .compress-block .ensures) (c .before .before .before .before .before .wrapping-add-u64 .ensures)
 
 pub top-up-spec : {M : Type 1} → statement M
 top-up-spec =

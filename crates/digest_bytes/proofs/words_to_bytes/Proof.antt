@@ -6,8 +6,8 @@ use Prim.Native.Nat.{ℕ, _≤_, _-_, _*_, _/_, _%_, _^_}
 use lib.ListN.{length, take, length-set}
 use Rattle.digest_fips180.specs.Sha256.{_!_, first, bigEndian, bytes}
 use Rattle.digest_fips180.proofs.First.{first-more, first-all}
-use Rattle.digest_bytes.proofs.bytes.Statement.{statement}
-use Rattle.digest_bytes.proofs.bytes.Tie as tie
+use Rattle.digest_bytes.proofs.words_to_bytes.Statement.{statement}
+use Rattle.digest_bytes.proofs.words_to_bytes.Tie as tie
 
 -- byte j: of word j / 4, the byte j % 4
 abbrev byteOf : List ℕ → ℕ → ℕ
@@ -31,8 +31,8 @@ returns : tie.Need-returns Inv-loop μ-loop
 unfolding bytes bigEndian first
 returns c = let e : c .before .loop .i ≡ 32 = omega arith in first-all (byteOf (c .before .before .args .t1)) _ 32 (c .before .loop .inv .1) (rw e at (c .before .loop .inv .2))
 
-pub bytes-spec : {M : Type 1} → statement M
-bytes-spec =
+pub words-to-bytes-spec : {M : Type 1} → statement M
+words-to-bytes-spec =
     tie.close
     (tie.spec
     Inv-loop
