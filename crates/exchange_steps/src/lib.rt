@@ -11,7 +11,7 @@ ghost use mathlib.Core.Path.{_≡_};
 ghost use Prim.Native.Nat.{_<_};
 ghost use Rattle.flash.specs.Sectors.{Partition, erased};
 ghost use Rattle.flash.specs.Buffers.{lent, Shaped};
-ghost use Rattle.exchange.specs.Operations.{source, target, get, put, perform};
+ghost use Rattle.exchange.specs.Operations.{put, perform};
 ghost use Rattle.exchange.specs.Order.{nextBy, step, run};
 ghost use Rattle.exchange_steps.specs.Inner.{SectorWithin, stepped, ran};
 
@@ -25,7 +25,8 @@ fn erase_in(
     swap: &mut [u8],
 )
     requires { ⌜ (Shaped g (lent boot update swap)) × (i .0 < g .sectors) ⌝ }
-    ensures { λ _. ⌜ lent (boot .exit) (update .exit) (swap .exit) ≡ put g area (i .0) (erased (g .size)) (lent (boot .entry) (update .entry) (swap .entry)) ⌝ }
+    ensures { λ _. ⌜ lent (boot .exit) (update .exit) (swap .exit)
+        ≡ put g area (i .0) (erased (g .size)) (lent (boot .entry) (update .entry) (swap .entry)) ⌝ }
 {
     match area {
         Area::Boot => flash_sectors::erase_sector(g, boot, i),
@@ -44,7 +45,8 @@ fn copy_for(
     swap: &mut [u8],
 )
     requires { ⌜ (Shaped g (lent boot update swap)) × (i .0 < g .sectors) ⌝ }
-    ensures { λ _. ⌜ lent (boot .exit) (update .exit) (swap .exit) ≡ put g (target leg) (i .0) (get g (source leg) (i .0) (lent (boot .entry) (update .entry) (swap .entry))) (lent (boot .entry) (update .entry) (swap .entry)) ⌝ }
+    ensures { λ _. ⌜ lent (boot .exit) (update .exit) (swap .exit)
+        ≡ perform g (Operation.Copy leg i) (lent (boot .entry) (update .entry) (swap .entry)) ⌝ }
 {
     match leg {
         Leg::UpdateToSwap => flash_sectors::copy_to_swap(g, swap, update, i),
@@ -96,7 +98,8 @@ pub fn do_next(
     swap: &mut [u8],
 ) -> Next
     requires { ⌜ Shaped g (lent boot update swap) ⌝ }
-    ensures { λ r. ⌜ stepped r (lent (boot .exit) (update .exit) (swap .exit)) ≡ step job g phase (lent (boot .entry) (update .entry) (swap .entry)) ⌝ }
+    ensures { λ r. ⌜ stepped r (lent (boot .exit) (update .exit) (swap .exit))
+        ≡ step job g phase (lent (boot .entry) (update .entry) (swap .entry)) ⌝ }
 {
     let next = find_next(g, job, phase, boot, update);
     match next {
@@ -124,7 +127,8 @@ pub fn repeat_step(
     budget: u64,
 ) -> Ran
     requires { ⌜ Shaped g (lent boot update swap) ⌝ }
-    ensures { λ r. ⌜ ran r (lent (boot .exit) (update .exit) (swap .exit)) ≡ run job g budget 0 (lent (boot .entry) (update .entry) (swap .entry)) ⌝ }
+    ensures { λ r. ⌜ ran r (lent (boot .exit) (update .exit) (swap .exit))
+        ≡ run job g budget 0 (lent (boot .entry) (update .entry) (swap .entry)) ⌝ }
 {
     let mut phase: u8 = 0;
     let mut count: u64 = 0;
