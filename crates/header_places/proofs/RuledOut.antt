@@ -32,14 +32,31 @@ row-none (y ∷ l) t f =
 
 -- ---- a tag, judged
 
+module _ (T : TagTable) (seen : List ℕ) (q t n : ℕ) (rest : Tags) {r : ℕ} (row : rowOf (T .types) t ≡ r) where
+  pub other-tag : length (T .types) ≤ r → judge T seen (more q t n rest) ≡ judge T seen rest
+  unfolding judge
+  other-tag a = simp (row, le-ltb _ _ a)
+
+  module _ (a : r < length (T .types)) where
+    pub length-tag : n ≢ getD (T .lengths) r 0 → judge T seen (more q t n rest) ≡ refused 5 q
+    unfolding judge
+    length-tag d = simp (row, lt-ltb _ _ a, ne-eqb _ _ d)
+
+    pub repeated-tag : n ≡ getD (T .lengths) r 0 → getD seen r 0 ≢ 0 → judge T seen (more q t n rest) ≡ refused 6 q
+    unfolding judge
+    repeated-tag e d = simp (row, lt-ltb _ _ a, eq-eqb _ _ e, ne-eqb _ _ d)
+
+    pub taken-tag : n ≡ getD (T .lengths) r 0 → getD seen r 0 ≡ 0 → judge T seen (more q t n rest) ≡ judge T (set seen r q) rest
+    unfolding judge
+    taken-tag e d = simp (row, lt-ltb _ _ a, eq-eqb _ _ e, eq-eqb _ _ d)
+
 pub tags-are-judged : TagsAreJudged
-unfolding judge
 tags-are-judged T seen q t n rest =
     record {
-      other = λ f. simp (le-ltb _ _ (row-none (T .types) t f));
-      wrongLength = λ r i d. simp (row i, lt-ltb _ _ (i .row), ne-eqb _ _ d);
-      repeated = λ r i e d. simp (row i, lt-ltb _ _ (i .row), eq-eqb _ _ e, ne-eqb _ _ d);
-      taken = λ r i e d. simp (row i, lt-ltb _ _ (i .row), eq-eqb _ _ e, eq-eqb _ _ d);
+      other = λ f. other-tag T seen q t n rest refl (row-none (T .types) t f);
+      wrongLength = λ r i. length-tag T seen q t n rest (row i) (i .row);
+      repeated = λ r i. repeated-tag T seen q t n rest (row i) (i .row);
+      taken = λ r i. taken-tag T seen q t n rest (row i) (i .row);
     }
   where
     row : {r : ℕ} → InRow T t r → rowOf (T .types) t ≡ r
