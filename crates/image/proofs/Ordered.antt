@@ -24,45 +24,64 @@ use Rattle.image.specs.Check.{same, valuesIn, covered, judged, imageIn}
 use Rattle.image.specs.Ordered.{CheckOrdered, ChecksInOrder, ImageNumber, wrongMagic, wrongSize, doesNotFit, wrongLength, repeated, noEnd, noVersion, noTimestamp, noDigest, noSignature, noAuthType, wrongDigest, tooShort, ChecksGiveTheirNumbers}
 use Rattle.image.proofs.Laws.{same-is}
 
+-- ---- the test of two digests
+
+same-no : (x y : List ℕ) → x ≢ y → same x y ≡ false
+same-no x y d = sym (same-is x y false (λ e. absurd (let z : _≡_ {A = ℕ} 0 1 = cc in omega arith)) (λ e. absurd (d e)))
+
+same-yes : (x y : List ℕ) → x ≡ y → same x y ≡ true
+same-yes x y e = sym (same-is x y true (λ t. e) (λ t. refl))
+
 -- ---- the order
 
+-- what the reader gives, it gives of places
+record Taken (b : List ℕ) (v : Header) : Type 0 where
+  places : List ℕ
+  found : tagPlaces b ≡ gives places
+  is : v ≡ valuesIn b places
+
 module _ (b : List ℕ) where
-  reader-first : (n p : ℕ) → readHeader b ≡ refused n p → imageIn b ≡ refused n p
-  unfolding imageIn readHeader
-  reader-first n p e = go (tagPlaces b) e
+  places-refused : (n p : ℕ) → readHeader b ≡ refused n p → tagPlaces b ≡ refused n p
+  unfolding readHeader
+  places-refused n p e = go (tagPlaces b) e
     where
-      go : (a : Answer (List ℕ)) → then a (λ l. gives (valuesAt (take 256 b) l)) ≡ refused n p → then a (judged b) ≡ refused n p
+      go : (a : Answer (List ℕ)) → then a (λ l. gives (valuesAt (take 256 b) l)) ≡ refused n p → a ≡ refused n p
       go (gives l) e = gives-refused e
       go (refused m q) e = rw (number-same e, place-same e)
 
-  -- what the reader takes is judged by its values
-  abbrev byValues : Header → Answer Header
-  byValues v =
-      cond (ltb (length b - 256) (v .size)) (refused 3 4) (cond (same (sha256 (take (v .size) (drop 256 b))) (v .digest)) (gives v) (refused 9 256))
-
-  by-values : (v : Header) → readHeader b ≡ gives v → imageIn b ≡ byValues v
-  unfolding imageIn readHeader
-  by-values v e = go (tagPlaces b) e
+  places-taken : (v : Header) → readHeader b ≡ gives v → Taken b v
+  unfolding readHeader
+  places-taken v e = go (tagPlaces b) refl e
     where
-      go : (a : Answer (List ℕ)) → then a (λ l. gives (valuesAt (take 256 b) l)) ≡ gives v → then a (judged b) ≡ byValues v
-      go (gives l) e = let i : valuesAt (take 256 b) l ≡ v = cc in ap byValues i
-      go (refused m q) e = refused-gives e
+      go : (a : Answer (List ℕ)) → tagPlaces b ≡ a → then a (λ l. gives (valuesAt (take 256 b) l)) ≡ gives v → Taken b v
+      go (gives l) x e = let i : valuesAt (take 256 b) l ≡ v = cc in record { places = l; found = x; is = sym i }
+      go (refused m q) x e = refused-gives e
 
-  -- the test of two digests
-  same-no : (x y : List ℕ) → x ≢ y → same x y ≡ false
-  same-no x y d = sym (same-is x y false (λ e. absurd (let z : _≡_ {A = ℕ} 0 1 = cc in omega arith)) (λ e. absurd (d e)))
+  reader-first : (n p : ℕ) → readHeader b ≡ refused n p → imageIn b ≡ refused n p
+  unfolding imageIn
+  reader-first n p e = simp (places-refused n p e)
 
-  same-yes : (x y : List ℕ) → x ≡ y → same x y ≡ true
-  same-yes x y e = sym (same-is x y true (λ t. e) (λ t. refl))
+  module _ (v : Header) (e : readHeader b ≡ gives v) where
+    abbrev t : Taken b v
+    t = places-taken v e
+
+    too-large : length b - 256 < v .size → imageIn b ≡ refused 3 4
+    unfolding imageIn
+    too-large lt = simp (t .found, lt-ltb _ _ (rw (t .is) at lt))
+
+    module _ (fits : v .size ≤ length b - 256) where
+      differing : sha256 (take (v .size) (drop 256 b)) ≢ v .digest → imageIn b ≡ refused 9 256
+      unfolding imageIn
+      differing d = simp (t .found, le-ltb _ _ (rw (t .is) at fits), same-no _ _ (rw (t .is) at d))
+
+      all-good : sha256 (take (v .size) (drop 256 b)) ≡ v .digest → imageIn b ≡ gives v
+      unfolding imageIn
+      all-good d =
+          let e : imageIn b ≡ gives (valuesIn b (t .places)) = simp (t .found, le-ltb _ _ (rw (t .is) at fits), same-yes _ _ (rw (t .is) at d)) in
+          e ∙ ap gives (sym (t .is))
 
 pub checks-in-order : ChecksInOrder
-checks-in-order b =
-    record {
-      reader = reader-first b;
-      large = λ v e lt. by-values b v e ∙ simp (lt-ltb _ _ lt);
-      differs = λ v e le d. by-values b v e ∙ simp (le-ltb _ _ le, same-no b _ _ d);
-      good = λ v e le d. by-values b v e ∙ simp (le-ltb _ _ le, same-yes b _ _ d);
-    }
+checks-in-order b = record { reader = reader-first b; large = too-large b; differs = differing b; good = all-good b }
 
 -- ---- the numbers
 
