@@ -14,10 +14,15 @@ use Rattle.flash.specs.Taken.{InRules, GeometryTaken, WhichAreTaken, Som
 given-refused : {A : Type 0} {g : Geometry} {n p : ℕ} {a : Answer Geometry} → a ≡ gives g → a ≡ refused n p → A
 given-refused x y = let z : _≡_ {A = ℕ} 0 1 = cc in absurd (omega arith)
 
+-- the tests hold of what is within the rules
+pub tests-hold : (g : Geometry) → InRules (g .sectors) (g .size) → withinLimits g ≡ true
+unfolding withinLimits
+tests-hold g w = simp (le-leb _ _ (w .few), le-leb _ _ (w .many), le-leb _ _ (w .small), le-leb _ _ (w .large), eq-eqb _ _ (w .unit))
+
 module _ (n s : ℕ) where
   within-rules : InRules n s → geometryOf n s ≡ gives (geometry n s)
-  unfolding geometryOf withinLimits
-  within-rules w = simp (le-leb _ _ (w .few), le-leb _ _ (w .many), le-leb _ _ (w .small), le-leb _ _ (w .large), eq-eqb _ _ (w .unit))
+  unfolding geometryOf
+  within-rules w = ap (λ (b : Bool). geometryWhere b n s) (tests-hold (geometry n s) w)
 
   both : InRules n s → GeometryTaken n s
   both w =
