@@ -6,6 +6,7 @@ use mathlib.Core.List.{List, [], _∷_}
 use mathlib.Core.Bool.{Bool, true, false, cond}
 use native.Mathlib.Omega.{arith}
 use lib.ListN.{length, getD, take, set, replicate}
+use lib.Seq.{length-take-le, getD-take}
 use lib.Dec.{ltb, eqb}
 use borrow.Author.Tests.{lt-ltb, le-ltb, eq-eqb, ne-eqb, ltb-true}
 use Rattle.numbers.specs.Answer.{Answer, gives, refused}
@@ -14,7 +15,7 @@ use Rattle.header_tags.specs.Padding.{WalkNumber, doesNotFit, noEnd}
 use Rattle.header_tags.proofs.Padding.{walk-gives-its-numbers, number-same, place-same, gives-refused}
 use Rattle.header_places.specs.Table.{TagTable}
 use Rattle.header_places.specs.Judging.{rowOf, judge, placesIn}
-use Rattle.header_places.specs.RuledOut.{InRow, TagJudged, TagsAreJudged, TagNumber, doesNotFit as notFitting, wrongLength as ofLength, repeated as again, noEnd as endless, missing, TagsGiveTheirNumbers}
+use Rattle.header_places.specs.RuledOut.{InRow, TagJudged, TagsAreJudged, EndJudged, EndIsJudged, TagNumber, doesNotFit as notFitting, wrongLength as ofLength, repeated as again, noEnd as endless, missing, TagsGiveTheirNumbers}
 
 -- ---- the row of a type
 
@@ -61,6 +62,32 @@ tags-are-judged T seen q t n rest =
   where
     row : {r : ℕ} → InRow T t r → rowOf (T .types) t ≡ r
     row {r} i = row-is (T .types) t r (i .row) (i .here) (i .before)
+
+-- ---- the end, judged
+
+module _ (T : TagTable) (seen : List ℕ) (rows : T .required ≤ length seen) where
+  len : length (take (T .required) seen) ≡ T .required
+  len = length-take-le (T .required) seen rows
+
+  end-missing : (r : ℕ) → r < T .required → getD seen r 0 ≡ 0 → ((i : ℕ) → i < r → getD seen i 0 ≢ 0)
+      → judge T seen ended ≡ refused 8 (getD (T .types) r 0)
+  unfolding judge
+  end-missing r a z f =
+      let e : rowOf (take (T .required) seen) 0 ≡ r =
+      row-is (take (T .required) seen) 0 r (omega (arith, len)) (getD-take (T .required) seen r 0 a ∙ z)
+      (λ i lt x. f i lt (sym (getD-take (T .required) seen i 0 (omega arith)) ∙ x)) in
+      simp (e, lt-ltb _ _ a)
+
+  end-whole : ((r : ℕ) → r < T .required → getD seen r 0 ≢ 0) → judge T seen ended ≡ gives seen
+  unfolding judge
+  end-whole f =
+      let w = row-none (take (T .required) seen) 0
+      (λ i lt x. let k : i < T .required = omega (arith, len) in f i k (sym (getD-take (T .required) seen i 0 k) ∙ x)) in
+      let le : T .required ≤ rowOf (take (T .required) seen) 0 = omega (arith, len) in
+      simp (le-ltb _ _ le)
+
+pub end-is-judged : EndIsJudged
+end-is-judged T seen rows = record { missing = end-missing T seen rows; whole = end-whole T seen rows }
 
 -- ---- the numbers
 

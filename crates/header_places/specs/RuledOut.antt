@@ -1,12 +1,12 @@
 -- Document 01, "The header": what the table makes of a tag, whatever was seen and whatever follows, and the numbers that it gives.
 -- Each statement is proved in proofs/.
 use mathlib.Core.Path.{_≡_}
-use Prim.Native.Nat.{ℕ, _<_}
+use Prim.Native.Nat.{ℕ, _≤_, _<_}
 use mathlib.Core.List.{List}
 use mathlib.Core.Logic.{_≢_}
 use lib.ListN.{length, getD, set}
-use Rattle.numbers.specs.Answer.{Answer, refused}
-use Rattle.header_tags.specs.Walk.{Tags, more}
+use Rattle.numbers.specs.Answer.{Answer, gives, refused}
+use Rattle.header_tags.specs.Walk.{Tags, ended, more}
 use Rattle.header_places.specs.Table.{TagTable}
 use Rattle.header_places.specs.Judging.{judge, placesIn}
 
@@ -30,6 +30,17 @@ pub record TagJudged (T : TagTable) (seen : List ℕ) (q t n : ℕ) (rest : Tags
 
 abbrev pub TagsAreJudged : Type 0
 TagsAreJudged = (T : TagTable) (seen : List ℕ) (q t n : ℕ) (rest : Tags) → TagJudged T seen q t n rest
+
+-- The end, with `seen` before it: a place for each row, or 0.
+pub record EndJudged (T : TagTable) (seen : List ℕ) : Type 0 where
+  -- "After the end, the smallest missing required type gives 8": that of the first required row without a place, since the types rise.
+  pub missing : (r : ℕ) → r < T .required → getD seen r 0 ≡ 0 → ((i : ℕ) → i < r → getD seen i 0 ≢ 0)
+      → judge T seen ended ≡ refused 8 (getD (T .types) r 0)
+  -- If every required row has a place, the places are given, whatever stands in the other rows.
+  pub whole : ((r : ℕ) → r < T .required → getD seen r 0 ≢ 0) → judge T seen ended ≡ gives seen
+
+abbrev pub EndIsJudged : Type 0
+EndIsJudged = (T : TagTable) (seen : List ℕ) → T .required ≤ length seen → EndJudged T seen
 
 -- The numbers that the tags of a header of l bytes give: 4, 5 and 6 at some place, 7 at l, and 8 with a required type for the place.
 pub data TagNumber (T : TagTable) (l : ℕ) : ℕ → ℕ → Type 0 where
