@@ -5,7 +5,7 @@ use Prim.Native.Nat.{ℕ, _≤_, _<_}
 use mathlib.Core.List.{List}
 use mathlib.Core.Logic.{_≢_}
 use lib.ListN.{length, getD, set}
-use Rattle.numbers.specs.Answer.{Answer, gives, refused}
+use Rattle.numbers.specs.Answer.{gives, refused}
 use Rattle.header_tags.specs.Walk.{Tags, ended, more}
 use Rattle.header_places.specs.Table.{TagTable}
 use Rattle.header_places.specs.Judging.{judge, placesIn}

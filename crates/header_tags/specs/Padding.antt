@@ -15,7 +15,7 @@ pub record Passes (h : List ℕ) (p : ℕ) : Type 0 where
 abbrev pub PaddingIsPassed : Type 0
 PaddingIsPassed = (h : List ℕ) (p : ℕ) → p < length h → getD h p 0 ≡ 0xFF → Passes h p
 
--- The numbers that break the walk: 4 at some place, or 7 at the header's length. h is a header of l bytes.
+-- The numbers that break the walk over a header of l bytes: 4 at some place, or 7 at l.
 pub data WalkNumber (l : ℕ) : ℕ → ℕ → Type 0 where
   doesNotFit : (p : ℕ) → WalkNumber l 4 p
   noEnd : WalkNumber l 7 l
