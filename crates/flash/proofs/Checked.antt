@@ -7,11 +7,12 @@ use native.Mathlib.Nat.{mul-le-mul, mul-le-mul-right, suc-mul, le-of-mul-le-mul-
 use native.Mathlib.Omega.{arith}
 use lib.ListN.{length}
 use lib.Dec.{leb, eqb}
-use borrow.Author.Tests.{leb-true, eqb-true, le-leb, eq-eqb}
+use borrow.Author.Tests.{leb-true, eqb-true, eq-eqb}
 use Rattle.flash.specs.declared.Geometry.{Geometry}
 use Rattle.flash.specs.Sizes.{firmware, partitionSize, withinLimits, Limits}
 use Rattle.flash.specs.Sectors.{Partition}
 use Rattle.flash.specs.Buffers.{Flash, partitionFits, fits, Shaped}
+use Rattle.flash.proofs.Taken.{tests-hold}
 
 and-left : (a b : Bool) → a && b ≡ true → a ≡ true
 and-left true b e = refl
@@ -46,9 +47,8 @@ limits-of g h =
     }
 
 pub limits-within : (g : Geometry) → Limits g → withinLimits g ≡ true
-unfolding withinLimits
 limits-within g G =
-    simp (le-leb _ _ (G .few), le-leb _ _ (G .many), le-leb _ _ (G .small), le-leb _ _ (G .large), eq-eqb _ _ (G .unit))
+    tests-hold g (record { unit = G .unit; small = G .small; large = G .large; few = G .few; many = G .many })
 
 -- n is m + 1
 pub sectors-are : (g : Geometry) → Limits g → g .sectors ≡ suc (firmware g)

@@ -194,6 +194,36 @@ fn one_flag(byte: u8) {
     flags(2, &update);
 }
 
+// Four firmware sectors: the flags of sectors 0 and 1, then those of 2 and 3 in the byte before.
+fn four_flags(first: u8, second: u8) {
+    let mut update = [0xAAu8; 1280];
+    update[1278] = first;
+    update[1277] = second;
+    print_byte(b"m 4 flag bytes ", first);
+    print_byte(b" ", second);
+    flags(5, &update);
+}
+
+// 63 firmware sectors: the bytes of sectors 0 and 1 and of 2 and 3, and F in every later flag.
+fn first_of_63(first: u8, second: u8) {
+    let mut update = [0xFFu8; 16384];
+    update[16382] = first;
+    update[16381] = second;
+    print_byte(b"m 63 first flag bytes ", first);
+    print_byte(b" ", second);
+    flags(64, &update);
+}
+
+// 63 firmware sectors: 0 in every earlier flag, the byte of sectors 60 and 61, and that of 62, whose high half is unused.
+fn last_of_63(before: u8, last: u8) {
+    let mut update = [0x00u8; 16384];
+    update[16352] = before;
+    update[16351] = last;
+    print_byte(b"m 63 last flag bytes ", before);
+    print_byte(b" ", last);
+    flags(64, &update);
+}
+
 fn copy(target: &mut [u8], source: &[u8]) {
     print_number(b"copy ", source.len());
     print_number(b" over ", target.len());
@@ -215,6 +245,7 @@ fn geometries() {
     four_sizes(65);
     four_sizes(1);
     four_sizes(2);
+    geometry(3, 768);
     geometry(2, 0);
     geometry(0, 256);
     geometry(18446744073709551615, 18446744073709551615);
@@ -259,6 +290,29 @@ fn half_bytes() {
     one_flag(0xFA);
 }
 
+fn flags_of_four() {
+    four_flags(0xFF, 0xFF);
+    four_flags(0x00, 0xFF);
+    four_flags(0x00, 0xF7);
+    four_flags(0x00, 0xF0);
+    four_flags(0x00, 0x30);
+    four_flags(0x00, 0x00);
+    four_flags(0xF0, 0xFF);
+    four_flags(0xFF, 0x00);
+    four_flags(0x00, 0x7F);
+}
+
+fn flags_of_63() {
+    first_of_63(0xFF, 0xFF);
+    first_of_63(0xF7, 0xFF);
+    first_of_63(0x00, 0x30);
+    last_of_63(0x70, 0xFF);
+    last_of_63(0x00, 0xF7);
+    last_of_63(0x00, 0xA3);
+    last_of_63(0x00, 0xF0);
+    last_of_63(0x00, 0x7F);
+}
+
 fn main() {
     geometries();
     let s = [0u8; 768];
@@ -271,5 +325,7 @@ fn main() {
     well_formed();
     malformed();
     half_bytes();
+    flags_of_four();
+    flags_of_63();
     copies(first(&s, 256));
 }

@@ -15,6 +15,7 @@ use Rattle.header_tags.specs.declared.Tag.the-variants.{Found, End, TooShort, D
 use Rattle.header_tags.proofs.Laws.{tags-step, next-within}
 use Rattle.header_places.specs.Table.{TagTable}
 use Rattle.header_places.specs.Judging.{rowOf, judge, placesIn, TagsFit}
+use Rattle.header_places.proofs.RuledOut.{other-tag, length-tag, repeated-tag, taken-tag}
 
 module _ (l : List ℕ) (x i : ℕ) where
   pub row-here : i < length l → getD l i 0 ≡ x → rowOf (drop i l) x ≡ 0
@@ -54,20 +55,16 @@ module _ {T : TagTable} {seen h : List ℕ} {at : ℕ} {O : Answer (List ℕ)} {
 
   module _ {r : ℕ} (row : r ≡ rowOf (T .types) k) where
     pub skipped : length (T .types) ≤ r → Goes T seen h (q + 4 + n) O
-    unfolding judge
-    skipped a = record { is = simp (← row, le-ltb _ _ a) at (first inv g e) }
+    skipped a = record { is = sym (other-tag T seen q k n _ (sym row) a) ∙ first inv g e }
 
     pub wrong-length : r < length (T .types) → (n ≡ getD (T .lengths) r 0 → ⊥) → refused 5 q ≡ O
-    unfolding judge
-    wrong-length a b = simp (← row, lt-ltb _ _ a, ne-eqb _ _ b) at (first inv g e)
+    wrong-length a b = sym (length-tag T seen q k n _ (sym row) a b) ∙ first inv g e
 
     pub repeated : r < length (T .types) → n ≡ getD (T .lengths) r 0 → (getD seen r 0 ≡ 0 → ⊥) → refused 6 q ≡ O
-    unfolding judge
-    repeated a b d = simp (← row, lt-ltb _ _ a, eq-eqb _ _ b, ne-eqb _ _ d) at (first inv g e)
+    repeated a b d = sym (repeated-tag T seen q k n _ (sym row) a b d) ∙ first inv g e
 
     pub taken : r < length (T .types) → n ≡ getD (T .lengths) r 0 → getD seen r 0 ≡ 0 → Goes T (set seen r q) h (q + 4 + n) O
-    unfolding judge
-    taken a b d = record { is = simp (← row, lt-ltb _ _ a, eq-eqb _ _ b, eq-eqb _ _ d) at (first inv g e) }
+    taken a b d = record { is = sym (taken-tag T seen q k n _ (sym row) a b d) ∙ first inv g e }
 
 module _ {T : TagTable} {seen h : List ℕ} {at : ℕ} {O : Answer (List ℕ)} {t : Tag} (inv : Goes T seen h at O)
     (g : itemOf t ≡ nextItem h at) where

@@ -1,4 +1,5 @@
 -- Laws of the table's judgement, which the proofs of this crate and of its callers cite.
+pub mod RuledOut
 pub mod Judged
 pub mod Fitting
 pub mod Refusals

@@ -11,6 +11,10 @@ use Rattle.numbers.specs.Answer.{Answer, gives, refused}
 use Rattle.header_tags.specs.Walk.{typeAt, lengthAt, Item, tag, end, itemAt, itemFrom, nextItem, walkAt, Tags, more, onItem, tagsFrom, tagsAt}
 
 module _ (h : List ℕ) (p : ℕ) where
+  pub next-padding : p < length h → getD h p 0 ≡ 255 → nextItem h (p + 1) ≡ nextItem h p
+  unfolding itemFrom
+  next-padding a b = let e : length h - p ≡ suc (length h - (p + 1)) = omega arith in rw (e, itemFrom, eq-eqb _ _ b)
+
   pub one-left : length h - p < 2 → refused 4 p ≡ itemAt h p
   unfolding itemAt
   one-left a = simp (lt-ltb _ _ a)
@@ -39,10 +43,6 @@ module _ (h : List ℕ) (p : ℕ) where
   pub next-none : length h ≤ p → refused 7 (length h) ≡ nextItem h p
   unfolding itemFrom
   next-none a = let e : length h - p ≡ 0 = omega arith in rw e
-
-  pub next-padding : p < length h → getD h p 0 ≡ 255 → nextItem h (p + 1) ≡ nextItem h p
-  unfolding itemFrom
-  next-padding a b = let e : length h - p ≡ suc (length h - (p + 1)) = omega arith in rw (e, itemFrom, eq-eqb _ _ b)
 
   pub next-item : p < length h → (getD h p 0 ≡ 255 → ⊥) → itemAt h p ≡ nextItem h p
   unfolding itemFrom

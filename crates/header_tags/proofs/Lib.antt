@@ -1,3 +1,4 @@
 -- Laws of the walk, which the proofs of this crate and of its callers cite.
 pub mod Laws
+pub mod Padding
 pub mod Found

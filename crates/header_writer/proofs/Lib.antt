@@ -1,2 +1,3 @@
 -- Laws of bytes written one behind another.
 pub mod Putting
+pub mod Filled

@@ -1,2 +1,3 @@
 -- The writer of a header.
 pub mod Writing
+pub mod Filled

@@ -1,3 +1,4 @@
 -- The check of a firmware image.
 pub mod Check
+pub mod Ordered
 pub mod Verdict

@@ -1,0 +1,145 @@
+-- What the table makes of a tag, and which numbers it gives. Assumes nothing.
+use mathlib.Core.Path.{_≡_, refl, sym, ap, _∙_}
+use mathlib.Core.Logic.{_≢_}
+use Prim.Native.Nat.{ℕ, zero, suc, _+_, _-_, _<_, _≤_}
+use mathlib.Core.List.{List, [], _∷_}
+use mathlib.Core.Bool.{Bool, true, false, cond}
+use native.Mathlib.Omega.{arith}
+use lib.ListN.{length, getD, take, set, replicate}
+use lib.Seq.{length-take-le, getD-take}
+use lib.Dec.{ltb, eqb}
+use borrow.Author.Tests.{lt-ltb, le-ltb, eq-eqb, ne-eqb, ltb-true}
+use Rattle.numbers.specs.Answer.{Answer, gives, refused}
+use Rattle.header_tags.specs.Walk.{Item, tag, end, nextItem, Tags, ended, broken, more, onItem, tagsFrom, tagsAt}
+use Rattle.header_tags.specs.Padding.{WalkNumber, doesNotFit, noEnd}
+use Rattle.header_tags.proofs.Padding.{walk-gives-its-numbers, number-same, place-same, gives-refused}
+use Rattle.header_places.specs.Table.{TagTable}
+use Rattle.header_places.specs.Judging.{rowOf, judge, placesIn}
+use Rattle.header_places.specs.RuledOut.{InRow, TagJudged, TagsAreJudged, EndJudged, EndIsJudged, TagNumber, doesNotFit as notFitting, wrongLength as ofLength, repeated as again, noEnd as endless, missing, TagsGiveTheirNumbers}
+
+-- ---- the row of a type
+
+row-is : (l : List ℕ) (t r : ℕ) → r < length l → getD l r 0 ≡ t → ((i : ℕ) → i < r → getD l i 0 ≢ t) → rowOf l t ≡ r
+unfolding rowOf
+row-is [] t r a b f = absurd (omega arith)
+row-is (y ∷ l) t zero a b f = rw (rowOf, eq-eqb y t b)
+row-is (y ∷ l) t (suc r) a b f = rw (rowOf, ne-eqb y t (f 0 (omega arith))) (ap suc (row-is l t r (omega arith) b (λ i lt. f (suc i) (omega arith))))
+
+row-none : (l : List ℕ) (t : ℕ) → ((r : ℕ) → r < length l → getD l r 0 ≢ t) → length l ≤ rowOf l t
+unfolding rowOf
+row-none [] t f = omega arith
+row-none (y ∷ l) t f =
+    rw (rowOf, ne-eqb y t (f 0 (omega arith))) (let w = row-none l t (λ i lt. f (suc i) (omega arith)) in omega arith)
+
+-- ---- a tag, judged
+
+module _ (T : TagTable) (seen : List ℕ) (q t n : ℕ) (rest : Tags) {r : ℕ} (row : rowOf (T .types) t ≡ r) where
+  pub other-tag : length (T .types) ≤ r → judge T seen (more q t n rest) ≡ judge T seen rest
+  unfolding judge
+  other-tag a = simp (row, le-ltb _ _ a)
+
+  module _ (a : r < length (T .types)) where
+    pub length-tag : n ≢ getD (T .lengths) r 0 → judge T seen (more q t n rest) ≡ refused 5 q
+    unfolding judge
+    length-tag d = simp (row, lt-ltb _ _ a, ne-eqb _ _ d)
+
+    pub repeated-tag : n ≡ getD (T .lengths) r 0 → getD seen r 0 ≢ 0 → judge T seen (more q t n rest) ≡ refused 6 q
+    unfolding judge
+    repeated-tag e d = simp (row, lt-ltb _ _ a, eq-eqb _ _ e, ne-eqb _ _ d)
+
+    pub taken-tag : n ≡ getD (T .lengths) r 0 → getD seen r 0 ≡ 0 → judge T seen (more q t n rest) ≡ judge T (set seen r q) rest
+    unfolding judge
+    taken-tag e d = simp (row, lt-ltb _ _ a, eq-eqb _ _ e, eq-eqb _ _ d)
+
+pub tags-are-judged : TagsAreJudged
+tags-are-judged T seen q t n rest =
+    record {
+      other = λ f. other-tag T seen q t n rest refl (row-none (T .types) t f);
+      wrongLength = λ r i. length-tag T seen q t n rest (row i) (i .row);
+      repeated = λ r i. repeated-tag T seen q t n rest (row i) (i .row);
+      taken = λ r i. taken-tag T seen q t n rest (row i) (i .row);
+    }
+  where
+    row : {r : ℕ} → InRow T t r → rowOf (T .types) t ≡ r
+    row {r} i = row-is (T .types) t r (i .row) (i .here) (i .before)
+
+-- ---- the end, judged
+
+module _ (T : TagTable) (seen : List ℕ) (rows : T .required ≤ length seen) where
+  len : length (take (T .required) seen) ≡ T .required
+  len = length-take-le (T .required) seen rows
+
+  end-missing : (r : ℕ) → r < T .required → getD seen r 0 ≡ 0 → ((i : ℕ) → i < r → getD seen i 0 ≢ 0)
+      → judge T seen ended ≡ refused 8 (getD (T .types) r 0)
+  unfolding judge
+  end-missing r a z f =
+      let e : rowOf (take (T .required) seen) 0 ≡ r =
+      row-is (take (T .required) seen) 0 r (omega (arith, len)) (getD-take (T .required) seen r 0 a ∙ z)
+      (λ i lt x. f i lt (sym (getD-take (T .required) seen i 0 (omega arith)) ∙ x)) in
+      simp (e, lt-ltb _ _ a)
+
+  end-whole : ((r : ℕ) → r < T .required → getD seen r 0 ≢ 0) → judge T seen ended ≡ gives seen
+  unfolding judge
+  end-whole f =
+      let w = row-none (take (T .required) seen) 0
+      (λ i lt x. let k : i < T .required = omega (arith, len) in f i k (sym (getD-take (T .required) seen i 0 k) ∙ x)) in
+      let le : T .required ≤ rowOf (take (T .required) seen) 0 = omega (arith, len) in
+      simp (le-ltb _ _ le)
+
+pub end-is-judged : EndIsJudged
+end-is-judged T seen rows = record { missing = end-missing T seen rows; whole = end-whole T seen rows }
+
+-- ---- the numbers
+
+told : {A : Type 0} {T : TagTable} {l m p n q : ℕ} → _≡_ {A = Answer A} (refused m p) (refused n q) → TagNumber T l m p → TagNumber T l n q
+told {T = T} {l = l} {m = m} {p = p} e w =
+    let a = number-same e in
+    let b = place-same e in
+    rw (a, b) at w
+
+of-walk : {T : TagTable} {l n q : ℕ} → WalkNumber l n q → TagNumber T l n q
+of-walk (doesNotFit p) = notFitting p
+of-walk noEnd = endless
+
+-- what breaks a walk is one of the walk's numbers
+abbrev Breaks : ℕ → Tags → Type 0
+Breaks l ended = Unit {0}
+Breaks l (broken n p) = WalkNumber l n p
+Breaks l (more q t m rest) = Breaks l rest
+
+tags-break : (h : List ℕ) (n p : ℕ) → Breaks (length h) (tagsFrom h n p)
+unfolding tagsFrom
+tags-break h zero p = noEnd
+tags-break h (suc n) p = go (λ q. tags-break h n q) (nextItem h p) refl
+  where
+    go : ((q : ℕ) → Breaks (length h) (tagsFrom h n q)) → (s : Answer Item) → nextItem h p ≡ s
+        → Breaks (length h) (onItem s (λ q. tagsFrom h n q))
+    go ih (gives (tag q t v)) e = ih (q + 4 + v)
+    go ih (gives end) e = tt
+    go ih (refused i q) e = walk-gives-its-numbers h p i q e
+
+judge-number : (T : TagTable) (l n p : ℕ) (ts : Tags) (seen : List ℕ) → Breaks l ts → judge T seen ts ≡ refused n p → TagNumber T l n p
+unfolding judge
+judge-number T l n p ended seen w e = go (ltb (rowOf (take (T .required) seen) 0) (T .required)) refl e
+  where
+    go : (b : Bool) → ltb (rowOf (take (T .required) seen) 0) (T .required) ≡ b
+        → cond b (refused 8 (getD (T .types) (rowOf (take (T .required) seen) 0) 0)) (gives seen) ≡ refused n p → TagNumber T l n p
+    go true x e = told e (missing (rowOf (take (T .required) seen) 0) (ltb-true _ _ x))
+    go false x e = gives-refused e
+judge-number T l n p (broken m q) seen w e = told e (of-walk w)
+judge-number T l n p (more q k m ts) seen w e =
+    go (λ s. judge-number T l n p ts s w) (ltb (rowOf (T .types) k) (length (T .types)))
+    (eqb m (getD (T .lengths) (rowOf (T .types) k) 0)) (eqb (getD seen (rowOf (T .types) k) 0) 0) e
+  where
+    go : ((s : List ℕ) → judge T s ts ≡ refused n p → TagNumber T l n p) → (b₁ b₂ b₃ : Bool)
+        → cond b₁ (cond b₂ (cond b₃ (judge T (set seen (rowOf (T .types) k) q) ts) (refused 6 q)) (refused 5 q)) (judge T seen ts) ≡ refused n p
+        → TagNumber T l n p
+    go ih false b₂ b₃ e = ih seen e
+    go ih true false b₃ e = told e (ofLength q)
+    go ih true true false e = told e (again q)
+    go ih true true true e = ih (set seen (rowOf (T .types) k) q) e
+
+pub tags-give-their-numbers : TagsGiveTheirNumbers
+unfolding placesIn
+tags-give-their-numbers T h n p e =
+    judge-number T (length h) n p (tagsAt h 8) (replicate (length (T .types)) 0) (tags-break h (length h - 8) 8) e

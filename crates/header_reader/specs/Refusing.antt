@@ -1,0 +1,30 @@
+-- Document 01, "Numbers given back": "Reader order: 16, 2, 3 (zero only), then the walk". Proved in proofs/.
+use mathlib.Core.Path.{_≡_}
+use Prim.Native.Nat.{ℕ, _≤_, _<_}
+use mathlib.Core.List.{List}
+use mathlib.Core.Logic.{_↔_}
+use lib.ListN.{length, getD, take}
+use Rattle.numbers.specs.Answer.{refused, gives, then}
+use Rattle.header_places.specs.Table.{documentTable}
+use Rattle.header_places.specs.Judging.{placesIn}
+use Rattle.header_reader.specs.Reading.{valuesAt, readHeader}
+
+-- "Bytes 0 to 3 are our magic, 43 45 52 54", and the size, in bytes 4 to 7, is 0.
+abbrev pub HasMagic : List ℕ → Type 0
+HasMagic s = (getD s 0 0 ≡ 0x43) × (getD s 1 0 ≡ 0x45) × (getD s 2 0 ≡ 0x52) × (getD s 3 0 ≡ 0x54)
+
+abbrev pub HasSizeZero : List ℕ → Type 0
+HasSizeZero s = (getD s 4 0 ≡ 0) × (getD s 5 0 ≡ 0) × (getD s 6 0 ≡ 0) × (getD s 7 0 ≡ 0)
+
+-- Of every buffer: 16 exactly if it is shorter than a header; else 2 exactly if it has not the magic; else 3 exactly if its size is 0;
+-- else what the walk over its first 256 bytes, judged by the table, refuses or finds.
+pub record ReaderRefuses (s : List ℕ) : Type 0 where
+  pub short : (readHeader s ≡ refused 16 0) ↔ (length s < 256)
+  pub magic : (readHeader s ≡ refused 2 0) ↔ ((256 ≤ length s) × (HasMagic s → ⊥))
+  pub zero : (readHeader s ≡ refused 3 4) ↔ ((256 ≤ length s) × HasMagic s × HasSizeZero s)
+  pub walk : 256 ≤ length s → HasMagic s → (HasSizeZero s → ⊥)
+      → readHeader s ≡ then (placesIn documentTable (take 256 s)) (λ places. gives (valuesAt (take 256 s) places))
+
+-- Each entry of a lent buffer is a byte.
+abbrev pub WhenReaderRefuses : Type 0
+WhenReaderRefuses = (s : List ℕ) → ((i : ℕ) → getD s i 0 < 256) → ReaderRefuses s
