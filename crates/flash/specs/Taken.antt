@@ -5,7 +5,7 @@ use Prim.Native.Nat.{ℕ, _%_, _≤_}
 use Rattle.numbers.specs.Answer.{gives, refused}
 use Rattle.flash.specs.Sizes.{geometry, geometryOf}
 
--- "S is a multiple of 256, from 256 to 131,072. n is from 2 to 64."
+-- The steps and the ends of S, and the ends of n.
 pub record InRules (n s : ℕ) : Type 0 where
   pub unit : s % 256 ≡ 0
   pub small : 256 ≤ s

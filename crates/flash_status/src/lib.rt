@@ -4,7 +4,9 @@ use flash::Geometry;
 ghost use mathlib.Core.Path.{_≡_};
 ghost use Rattle.flash.specs.Sizes.{Limits};
 ghost use Rattle.flash.specs.Sectors.{Partition};
-ghost use Rattle.flash_status.specs.StatusBytes.{statusPlace, statusByte, setStatusByte, bootByte, bootStatusAnswer, bootStatusOf, bootStatusAt, setBootStatus, updateByte, updateStatusAnswer, updateStatusOf, updateStatusAt, setUpdateStatus, statusesOf, bothStatuses};
+ghost use Rattle.flash_status.specs.StatusBytes.{statusPlace, statusByte, setStatusByte, statusesOf, bothStatuses};
+ghost use Rattle.flash_status.specs.StatusBytes.{bootByte, bootStatusAnswer, bootStatusOf, bootStatusAt, setBootStatus};
+ghost use Rattle.flash_status.specs.StatusBytes.{updateByte, updateStatusAnswer, updateStatusOf, updateStatusAt, setUpdateStatus};
 
 // What BOOT's status byte may hold.
 pub enum BootStatus {

@@ -18,11 +18,11 @@ pub record InRow (T : TagTable) (t r : ℕ) : Type 0 where
 
 -- The tag at q, of type t and length n, with `seen` before it and `rest` behind it.
 pub record TagJudged (T : TagTable) (seen : List ℕ) (q t n : ℕ) (rest : Tags) : Type 0 where
-  -- "Other types are skipped": a type that stands in no row changes nothing.
+  -- A type that stands in no row changes nothing.
   pub other : ((r : ℕ) → r < length (T .types) → getD (T .types) r 0 ≢ t) → judge T seen (more q t n rest) ≡ judge T seen rest
-  -- "For a type in the table: wrong length, 5", also if it was seen before.
+  -- One of the table whose value has another length than its row says is 5, also if it came before.
   pub wrongLength : (r : ℕ) → InRow T t r → n ≢ getD (T .lengths) r 0 → judge T seen (more q t n rest) ≡ refused 5 q
-  -- "Seen before, 6": its row has a place already.
+  -- One whose row has a place already is 6.
   pub repeated : (r : ℕ) → InRow T t r → n ≡ getD (T .lengths) r 0 → getD seen r 0 ≢ 0 → judge T seen (more q t n rest) ≡ refused 6 q
   -- Otherwise its place is kept in its row.
   pub taken : (r : ℕ) → InRow T t r → n ≡ getD (T .lengths) r 0 → getD seen r 0 ≡ 0
@@ -33,7 +33,7 @@ TagsAreJudged = (T : TagTable) (seen : List ℕ) (q t n : ℕ) (rest : Tags) →
 
 -- The end, with `seen` before it: a place for each row, or 0.
 pub record EndJudged (T : TagTable) (seen : List ℕ) : Type 0 where
-  -- "After the end, the smallest missing required type gives 8": that of the first required row without a place, since the types rise.
+  -- A required row without a place is 8 with its type; the first such row counts, which has the smallest type, since the types rise.
   pub missing : (r : ℕ) → r < T .required → getD seen r 0 ≡ 0 → ((i : ℕ) → i < r → getD seen i 0 ≢ 0)
       → judge T seen ended ≡ refused 8 (getD (T .types) r 0)
   -- If every required row has a place, the places are given, whatever stands in the other rows.

@@ -1,4 +1,4 @@
--- Document 01, "Numbers given back": "Reader order: 16, 2, 3 (zero only), then the walk". Proved in proofs/.
+-- Document 01, "Numbers given back": in which order the reader refuses. Proved in proofs/.
 use mathlib.Core.Path.{_≡_}
 use Prim.Native.Nat.{ℕ, _≤_, _<_}
 use mathlib.Core.List.{List}
@@ -9,7 +9,7 @@ use Rattle.header_places.specs.Table.{documentTable}
 use Rattle.header_places.specs.Judging.{placesIn}
 use Rattle.header_reader.specs.Reading.{valuesAt, readHeader}
 
--- "Bytes 0 to 3 are our magic, 43 45 52 54", and the size, in bytes 4 to 7, is 0.
+-- The first four bytes are the magic; the four behind them, the size, are 0.
 abbrev pub HasMagic : List ℕ → Type 0
 HasMagic s = (getD s 0 0 ≡ 0x43) × (getD s 1 0 ≡ 0x45) × (getD s 2 0 ≡ 0x52) × (getD s 3 0 ≡ 0x54)
 

@@ -53,7 +53,7 @@ pub record RoundTrip (w : Write) (out : List ℕ) (v u : Header) : Type 0 where
   pub back : readHeader (w .bytes) ≡ gives u
   pub alone : (rest : List ℕ) → readHeader (take 256 (w .bytes) ++ rest) ≡ gives u
 
--- "What it writes reads back to the same values": of every header that can be held, in every output that has room for it.
+-- What is written comes back when it is read: of every header that can be held, in every output that has room for it.
 abbrev pub WriteThenRead : Type 0
 WriteThenRead = (v : Header) → Holdable v → (out : List ℕ) → 256 ≤ length out → RoundTrip (writeHeader v out) out v (carried v)
 
@@ -61,7 +61,7 @@ WriteThenRead = (v : Header) → Holdable v → (out : List ℕ) → 256 ≤ len
 abbrev pub Bytes : List ℕ → Type 0
 Bytes s = (i : ℕ) → getD s i 0 < 256
 
--- "Read, write, read gives the first values again": of every buffer of bytes that the reader accepts, in every output that has room.
+-- What was read, once it is written, reads the same: of every buffer of bytes that the reader accepts, in every output that has room.
 abbrev pub ReadWriteRead : Type 0
 ReadWriteRead =
     (s : List ℕ) → Bytes s → (v : Header) → readHeader s ≡ gives v
@@ -71,7 +71,7 @@ ReadWriteRead =
 abbrev pub ReadIsHoldable : Type 0
 ReadIsHoldable = (s : List ℕ) → Bytes s → (v : Header) → readHeader s ≡ gives v → Holdable v
 
--- "Writer order: 16, 3 (zero only)", and a refusal changes no byte. Of every header and every output: 16 exactly if the output is
+-- When the writer refuses, and that a refusal changes no byte. Of every header and every output: 16 exactly if the output is
 -- shorter than a header; else 3 exactly if the size is 0; else the header is taken. Both refusals leave the output as it was.
 pub record WriterRefuses (v : Header) (out : List ℕ) : Type 0 where
   pub short : (writeHeader v out ≡ write (refused 16 0) out) ↔ (length out < 256)

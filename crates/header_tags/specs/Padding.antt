@@ -6,7 +6,7 @@ use lib.ListN.{length, getD}
 use Rattle.numbers.specs.Answer.{refused}
 use Rattle.header_tags.specs.Walk.{nextItem, broken, tagsAt}
 
--- "A byte FF is padding, go to p + 1", wherever it stands: before any tag, between any two, in any amount. From a padding byte on the walk
+-- Padding may stand anywhere, before a tag, between two, and as much as there is room for: from a padding byte on the walk
 -- finds what it finds from the next byte on, the next item and all that follow.
 pub record Passes (h : List ℕ) (p : ℕ) : Type 0 where
   pub item : nextItem h p ≡ nextItem h (p + 1)

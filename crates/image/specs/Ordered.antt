@@ -10,8 +10,8 @@ use Rattle.header_reader.specs.declared.Header.{Header}
 use Rattle.header_reader.specs.Reading.{readHeader}
 use Rattle.image.specs.Check.{imageIn}
 
--- "Read the header; then size above m × S − 256 is refusal 3; then the digest is taken over the firmware bytes alone, from 256 for the
--- stated size, and a difference is refusal 9." b is the bytes of the firmware sectors, m × S of them.
+-- The three tests of an image, one after the other: its header, its size, its digest over the firmware behind the header. b has the bytes of
+-- the firmware sectors, m × S of them.
 pub record CheckOrdered (b : List ℕ) : Type 0 where
   -- What the reader refuses, the check refuses, whatever the size and the digest are.
   pub reader : (n p : ℕ) → readHeader b ≡ refused n p → imageIn b ≡ refused n p
