@@ -16,7 +16,7 @@ use Rattle.header_places.proofs.RuledOut.{tags-give-their-numbers}
 use Rattle.header_reader.specs.declared.Header.{Header}
 use Rattle.header_reader.specs.Reading.{magic, bytesAt, tagPlaces, valuesAt, readHeader}
 use Rattle.header_reader.specs.Refusing.{HasMagic, HasSizeZero, ReaderRefuses, WhenReaderRefuses}
-use Rattle.header_reader.proofs.Parts.{num-4}
+use Rattle.header_reader.proofs.BytesAt.{num-4}
 use Rattle.header_reader.proofs.Answers.{short, no-magic, no-size, by-tags, by-places}
 
 -- the number of an answer, 0 where it is none

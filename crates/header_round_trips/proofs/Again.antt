@@ -16,7 +16,7 @@ use Rattle.header_places.specs.Judging.{placesIn}
 use Rattle.header_places.proofs.Fitting.{found-within}
 use Rattle.header_reader.specs.declared.Header.{Header}
 use Rattle.header_reader.specs.Reading.{bytesAt, tagPlaces, valuesAt, readHeader}
-use Rattle.header_reader.proofs.Parts.{length-part}
+use Rattle.header_reader.proofs.BytesAt.{length-part}
 use Rattle.header_reader.proofs.Answers.{located}
 use Rattle.header_writer.specs.Writing.{writeHeader}
 use Rattle.header_round_trips.specs.RoundTrips.{Holdable, carriedHint, carried, Bytes, RoundTrip, ReadIsHoldable, ReadWriteRead}

@@ -1,5 +1,5 @@
 use borrow.Author.Needs.{needs}
-use Rattle.header_reader.proofs.Parts.{copied}
+use Rattle.header_reader.proofs.BytesAt.{copied}
 use Rattle.header_reader.proofs.copy_32.Statement.{statement}
 use Rattle.header_reader.proofs.copy_32.Tie as tie
 

@@ -1,5 +1,5 @@
 use borrow.Author.Needs.{needs}
-use Rattle.header_reader.proofs.Parts.{num-2}
+use Rattle.header_reader.proofs.BytesAt.{num-2}
 use Rattle.header_reader.proofs.read_u16.Statement.{statement}
 use Rattle.header_reader.proofs.read_u16.Tie as tie
 

@@ -1,5 +1,5 @@
 use borrow.Author.Needs.{needs}
-use Rattle.header_reader.proofs.Parts.{num-4}
+use Rattle.header_reader.proofs.BytesAt.{num-4}
 use Rattle.header_reader.proofs.read_u32.Statement.{statement}
 use Rattle.header_reader.proofs.read_u32.Tie as tie
 

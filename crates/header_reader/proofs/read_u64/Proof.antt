@@ -1,5 +1,5 @@
 use borrow.Author.Needs.{needs}
-use Rattle.header_reader.proofs.Parts.{num-8}
+use Rattle.header_reader.proofs.BytesAt.{num-8}
 use Rattle.header_reader.proofs.read_u64.Statement.{statement}
 use Rattle.header_reader.proofs.read_u64.Tie as tie
 
