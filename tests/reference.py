@@ -1,4 +1,5 @@
-"""Document 01's rules for headers, images, status bytes and flags, once more: written from the paper, with no code of the library.
+"""Document 01's rules for headers, images, status bytes, flags and power-up, and the rules of the release sheet, once more: written
+from the papers, with no code of the library.
 
 The scripts in this folder compare what the library's programs print with what this module says.
 """
@@ -92,6 +93,23 @@ def read_header(data):
     }
 
 
+def write_header(h):
+    """The header of these values: the tags in the table's order, the end, and FF up to 256."""
+    values = {
+        0x0001: h["version"].to_bytes(4, "little"),
+        0x0002: h["timestamp"].to_bytes(8, "little"),
+        0x0003: h["digest"],
+        0x0020: h["signature"],
+        0x0030: h["auth"].to_bytes(2, "little"),
+    }
+    if h["hint"] is not None:
+        values[OPTIONAL] = h["hint"]
+    out = MAGIC + h["size"].to_bytes(4, "little")
+    for kind in sorted(values):
+        out += kind.to_bytes(2, "little") + len(values[kind]).to_bytes(2, "little") + values[kind]
+    return (out + bytes(2)).ljust(HEADER, b"\xff")
+
+
 def listing(data):
     """What the listing program prints."""
     try:
@@ -119,6 +137,83 @@ def check_image(n, s, partition):
     return h
 
 
+def check_firmware(data):
+    """The header's values of a good image in a file, whose bytes stand for the firmware sectors, or Refused."""
+    h = read_header(data)
+    if h["size"] > len(data) - HEADER:
+        raise Refused(3, 4)
+    if hashlib.sha256(data[HEADER : HEADER + h["size"]]).digest() != h["digest"]:
+        raise Refused(9, HEADER)
+    return h
+
+
+# ---- the release sheet
+
+
+def below(bits):
+    """Decimal digits, leading zeros taken, of a number below 2^bits. A value that is not allowed has no reading."""
+
+    def read(value):
+        if re.fullmatch(b"[0-9]+", value):
+            digits = value.lstrip(b"0") or b"0"
+            if len(digits) <= 20 and int(digits) < 1 << bits:
+                return [int(digits)]
+        return []
+
+    return read
+
+
+def digits_of(count):
+    """Hex digits, so many and in either case."""
+    return lambda value: [bytes.fromhex(value.decode())] if re.fullmatch(b"[0-9a-fA-F]{%d}" % count, value) else []
+
+
+def hint(value):
+    return [None] if value == b"no" else digits_of(64)(value)
+
+
+# How a line's value is read, and the type of the header that it is for.
+SHEET = {
+    b"version": (below(32), 0x0001),
+    b"timestamp": (below(64), 0x0002),
+    b"signature": (digits_of(128), 0x0020),
+    b"auth": (below(16), 0x0030),
+    b"hint": (hint, 0x1000),
+}
+
+
+def read_sheet(text):
+    """What a release sheet states, by name, or Refused with the line; 105 has the type of what is missing there."""
+    stated = {}
+    for number, line in enumerate(text.split(b"\n"), 1):
+        if line == b"" or line.startswith(b"#"):
+            continue
+        name, space, value = line.partition(b" ")
+        if not space:
+            raise Refused(101, number)
+        if name not in SHEET:
+            raise Refused(102, number)
+        reading = SHEET[name][0](value)
+        if not reading:
+            raise Refused(103, number)
+        if name in stated:
+            raise Refused(104, number)
+        stated[name] = reading[0]
+    missing = [kind for name, (_, kind) in SHEET.items() if name not in stated]
+    if missing:
+        raise Refused(105, min(missing))
+    return {name.decode(): value for name, value in stated.items()}
+
+
+def make_image(sheet, firmware):
+    """The image of a firmware with what a sheet states, or Refused."""
+    if len(firmware) == 0 or len(firmware) >= 1 << 32:
+        raise Refused(3, 4)
+    return write_header({**sheet, "size": len(firmware), "digest": hashlib.sha256(firmware).digest()}) + firmware
+
+
+# ---- status bytes and flags
+
 # The status bytes that BOOT and UPDATE may hold.
 STATUSES = {
     "BOOT": {0xFF: "NEW", 0x10: "TESTING", 0x00: "SUCCESS"},
@@ -140,3 +235,107 @@ def flags(m, trailer):
         return "all 0"
     first = len(read) - len(read.lstrip("0"))
     return f"sector {first} {LEGS[read[first]]}"
+
+
+# ---- power-up, of a flash whose statuses and flags are allowed
+
+
+class Flash:
+    """BOOT, UPDATE and SWAP, as three lists of sectors; the last of BOOT and of UPDATE is the trailer sector."""
+
+    def __init__(self, n, s, boot, update, swap):
+        self.n, self.s, self.m = n, s, n - 1
+        cut = lambda data: [bytearray(data[i : i + s]) for i in range(0, len(data), s)]
+        self.areas = {"BOOT": cut(boot), "UPDATE": cut(update), "SWAP": cut(swap)}
+
+    def partition(self, area):
+        return b"".join(self.areas[area])
+
+    def status(self, area):
+        return self.areas[area][self.m][-1]
+
+    def flag(self, i):
+        return self.areas["UPDATE"][self.m][-2 - i // 2] >> 4 * (i % 2) & 0xF
+
+    def flags(self):
+        return [self.flag(i) for i in range(self.m)]
+
+    def perform(self, operation):
+        what, area, i, value = operation
+        if what == "erase":
+            self.areas[area][i][:] = b"\xff" * self.s
+        elif what == "copy":
+            self.areas[area][i][:] = value()
+        elif what == "flag":
+            trailer, half = self.areas["UPDATE"][self.m], 4 * (i % 2)
+            trailer[-2 - i // 2] = trailer[-2 - i // 2] & ~(0xF << half) | value << half
+        else:
+            self.areas[area][self.m][-1] = value
+
+    def legs(self):
+        """The operations that exchange what the flags show as not exchanged, each leg from its top."""
+        sector = lambda area, i: lambda: bytes(self.areas[area][i])
+        for i in range(self.m):
+            table = [
+                (0xF, ("SWAP", 0), ("UPDATE", i), 0x7),
+                (0x7, ("UPDATE", i), ("BOOT", i), 0x3),
+                (0x3, ("BOOT", i), ("SWAP", 0), 0x0),
+            ]
+            for flag, to, source, moved in table:
+                if self.flag(i) >= flag:
+                    yield ("erase", *to, None)
+                    yield ("copy", *to, sector(*source))
+                    yield ("flag", None, i, moved)
+
+
+def refusal_of(n, s, partition):
+    try:
+        check_image(n, s, partition)
+    except Refused as refused:
+        return refused
+    return None
+
+
+def plan(f):
+    """The operations of a power-up, its outcome once they are done, and why an update is turned down; or Refused."""
+    n, s = f.n, f.s
+    boot, update = f.status("BOOT"), f.status("UPDATE")
+    if update == 0xFF and boot != 0x10:
+        return [], "run", None
+    legs = list(f.legs())
+    untouched = all(flag == 0xF for flag in f.flags())
+    if update == 0xFF:
+        if untouched and refusal_of(n, s, f.partition("UPDATE")):
+            raise Refused(13)
+        return legs + [("status", "BOOT", f.m, 0x00)], "run, fallen back", None
+    if untouched and boot != 0x10:
+        down = [("erase", "UPDATE", f.m, None)]
+        bad = refusal_of(n, s, f.partition("UPDATE"))
+        if bad:
+            return down, "run", bad
+        if refusal_of(n, s, f.partition("BOOT")):
+            raise Refused(12)
+        if read_header(f.partition("UPDATE"))["version"] <= read_header(f.partition("BOOT"))["version"]:
+            return down, "run", Refused(15)
+    end = [("erase", "BOOT", f.m, None)] if boot == 0x00 else []
+    end += [("status", "BOOT", f.m, 0x10)] if boot != 0x10 else []
+    return legs + end + [("erase", "UPDATE", f.m, None)], "run on test", None
+
+
+def power_up(f, budget):
+    """What a power-up answers: its outcome, how many operations, why an update is turned down, and the operation that is next."""
+    try:
+        operations, outcome, reason = plan(f)
+    except Refused as refused:
+        side = "BOOT" if refused.number == 12 else "UPDATE"
+        inner = refusal_of(f.n, f.s, f.partition(side))
+        return f"refused {refused.number} for {inner.number} at {inner.place}", 0, None, None
+    done = operations[:budget]
+    for operation in done:
+        f.perform(operation)
+    if len(done) < len(operations):
+        return "cut", len(done), reason, operations[len(done)]
+    bad = refusal_of(f.n, f.s, f.partition("BOOT"))
+    if bad:
+        return f"refused 12 for {bad.number} at {bad.place}", len(done), reason, None
+    return outcome, len(done), reason, None

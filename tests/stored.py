@@ -2,15 +2,22 @@
 import pathlib
 import sys
 
+import words
+
 ROOT = pathlib.Path(__file__).resolve().parent.parent
 
 
-def settle(crate, what, files):
-    """`files` are names below crates/`crate` with the text that each should have. With --write they are written; else a difference
-    ends the program with 1."""
+def asked(usage):
+    """Whether --write stands on the command's line."""
+    return words.only(usage, "--write") == "--write"
+
+
+def settle(write, crate, what, files):
+    """`files` are names below crates/`crate` with the text that each should have. They are written if that is asked; else a
+    difference ends the program with 1."""
     folder = ROOT / "crates" / crate
     lines = files["stdout"].count("\n")
-    if sys.argv[1:] == ["--write"]:
+    if write:
         for name, text in files.items():
             (folder / name).write_text(text)
         print(f"{what}: {lines} lines written")

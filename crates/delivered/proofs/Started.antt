@@ -13,7 +13,8 @@ use Rattle.header_tags.specs.Bytes.{fieldBytes}
 use Rattle.header_places.specs.Judging.{rowOf, judge, placesIn}
 use Rattle.header_reader.specs.Reading.{tagPlaces}
 use Rattle.header_writer.specs.Writing.{headerBytes}
-use Rattle.image.specs.Check.{same, imageIn}
+use Rattle.header_tags.specs.Bytes.{same}
+use Rattle.image.specs.Check.{imageIn}
 use Rattle.exchange.specs.Decision.{decide}
 use Rattle.exchange.specs.LostPower.{Torn}
 use Rattle.exchange.specs.Demand.{Exchange, update, fallback, Starts, most}

@@ -17,7 +17,7 @@ pub struct Places {
 }
 
 // The first index at which a number stands, or the length.
-fn row_of(row: &[usize], x: usize) -> usize
+pub fn row_of(row: &[usize], x: usize) -> usize
     ensures { λ r. ⌜ r ≡ rowOf (now (row .entry)) x ⌝ }
 {
     let mut i = 0;

@@ -2,3 +2,4 @@
 pub mod Laws
 pub mod Padding
 pub mod Found
+pub mod Same

@@ -1,6 +1,8 @@
--- Numbers and tags as bytes.
+-- Numbers and tags as bytes, and bytes that are the same.
 use Prim.Native.Nat.{ℕ, zero, suc, _+_, _*_, _/_, _%_}
+use mathlib.Core.Bool.{Bool, true, false, _&&_}
 use mathlib.Core.List.{List, [], _∷_, _++_}
+use lib.Dec.{eqb}
 use lib.ListN.{length}
 
 -- Source 000 stores the numbers of a header with the low byte first: v in n bytes, and the number that bytes are.
@@ -25,3 +27,10 @@ tagBytes t v = littleEndian 2 t ++ (littleEndian 2 (length v) ++ v)
 unfoldable pub fieldBytes : List Field → List ℕ
 fieldBytes [] = []
 fieldBytes (f ∷ l) = tagBytes (f .type) (f .value) ++ fieldBytes l
+
+-- Two strings of bytes are the same, or not.
+unfoldable pub same : List ℕ → List ℕ → Bool
+same [] [] = true
+same [] (y ∷ ys) = false
+same (x ∷ xs) [] = false
+same (x ∷ xs) (y ∷ ys) = eqb x y && same xs ys

@@ -117,7 +117,7 @@ pub fn write_header(out: &mut [u8], v: Header) -> WriteOutcome
     }
     let size = v.size;
     if size == 0 {
-        return WriteOutcome::ZeroSize;
+        return WriteOutcome::WrongSize;
     }
     let tags_at = put_front(out, v);
     let hint_at = put_required(out, tags_at, v);

@@ -16,36 +16,7 @@ use Rattle.numbers.specs.declared.ImageOutcome.{ImageOutcome}
 use Rattle.numbers.specs.declared.ImageOutcome.the-variants.{OutsideRules}
 use Rattle.image.specs.declared.ImageAnswer.{ImageAnswer}
 use Rattle.numbers.specs.GivenBack.{imageAnswer}
-use Rattle.image.specs.Check.{same, imageIn, checkImage, Checks}
-
--- ---- the same bytes
-
-same-refl : (a : List ℕ) → same a a ≡ true
-unfolding same
-same-refl [] = refl
-same-refl (x ∷ xs) = rw (eq-eqb x x refl) (same-refl xs)
-
-both : (a b : Bool) → a && b ≡ true → (a ≡ true) × (b ≡ true)
-both true b e = (refl, e)
-both false b e = absurd (let z : _≡_ {A = ℕ} 0 1 = cc in omega arith)
-
-same-true : (a b : List ℕ) → same a b ≡ true → a ≡ b
-unfolding same
-same-true [] [] e = refl
-same-true [] (y ∷ ys) e = absurd (let z : _≡_ {A = ℕ} 0 1 = cc in omega arith)
-same-true (x ∷ xs) [] e = absurd (let z : _≡_ {A = ℕ} 0 1 = cc in omega arith)
-same-true (x ∷ xs) (y ∷ ys) e =
-    let w = both (eqb x y) (same xs ys) e in
-    ap₂ _∷_ (eqb-true x y (w .0)) (same-true xs ys (w .1))
-
--- a test that holds exactly if the bytes are the same
-pub same-is : (a b : List ℕ) (r : Bool) → (r ≡ true → a ≡ b) → (a ≡ b → r ≡ true) → r ≡ same a b
-same-is a b true f g = sym (rw (f refl) (same-refl b))
-same-is a b false f g = go (same a b) refl
-  where
-    go : (s : Bool) → same a b ≡ s → false ≡ s
-    go true e = g (same-true a b e)
-    go false e = refl
+use Rattle.image.specs.Check.{imageIn, checkImage, Checks}
 
 -- ---- a refusal, with a blank header
 
@@ -65,12 +36,19 @@ pub firmware-decides : (n s : ℕ) (l l′ : List ℕ) (g : Geometry) → partit
 unfolding checkImage
 firmware-decides n s l l′ g e e′ same = rw (e, e′) (ap imageIn same)
 
+-- what is answered, by the lengths
+pub outside-is : (n s : ℕ) (l : List ℕ) → refused 1 0 ≡ partitionOf n s l → checkImage n s l ≡ refused 1 0
+unfolding checkImage
+outside-is n s l e = rw (← e)
+
+pub inside-is : (n s : ℕ) (l : List ℕ) {b : List ℕ} (g : Geometry) → gives g ≡ partitionOf n s l → b ≡ firmwareOf g l → checkImage n s l ≡ imageIn b
+unfolding checkImage
+inside-is n s l g e p = rw (← e, ← p)
+
 pub outside : (n s : ℕ) (l : List ℕ) {r : ImageAnswer} → refused 1 0 ≡ partitionOf n s l → (r .outcome ≡ OutsideRules) × (r .header ≡ blank)
     → Checks (checkImage n s l) r
-unfolding checkImage
-outside n s l e w = turned w refl (rw (← e))
+outside n s l e w = turned w refl (outside-is n s l e)
 
 pub inside : (n s : ℕ) (l : List ℕ) {b : List ℕ} {r : ImageAnswer} (g : Geometry) → gives g ≡ partitionOf n s l → b ≡ firmwareOf g l
     → Checks (imageIn b) r → Checks (checkImage n s l) r
-unfolding checkImage
-inside n s l g e p c = rw (← e, ← p) c
+inside n s l g e p c = rw (inside-is n s l g e p) c

@@ -20,9 +20,10 @@ use Rattle.header_places.specs.RuledOut.{TagNumber, doesNotFit as notFitting, w
 use Rattle.header_places.proofs.RuledOut.{tags-give-their-numbers}
 use Rattle.header_reader.specs.declared.Header.{Header}
 use Rattle.header_reader.specs.Reading.{magic, bytesAt, tagPlaces, valuesAt, readHeader}
-use Rattle.image.specs.Check.{same, valuesIn, covered, judged, imageIn}
+use Rattle.header_tags.specs.Bytes.{same}
+use Rattle.image.specs.Check.{valuesIn, covered, judged, imageIn}
 use Rattle.image.specs.Ordered.{CheckOrdered, ChecksInOrder, ImageNumber, wrongMagic, wrongSize, doesNotFit, wrongLength, repeated, noEnd, noVersion, noTimestamp, noDigest, noSignature, noAuthType, wrongDigest, tooShort, ChecksGiveTheirNumbers}
-use Rattle.image.proofs.Laws.{same-is}
+use Rattle.header_tags.proofs.Same.{same-is}
 
 -- ---- the test of two digests
 

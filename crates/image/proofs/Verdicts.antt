@@ -27,7 +27,8 @@ use Rattle.image.specs.declared.Release.{Release}
 use Rattle.image.specs.declared.ImageVerdict.{ImageVerdict}
 use Rattle.image.specs.declared.ImageVerdict.the-variants.{Good, Bad}
 use Rattle.numbers.specs.GivenBack.{beside, refusalOf, badHeader, headerSays, imageAnswer, ownOf}
-use Rattle.image.specs.Check.{same, valuesIn, covered, judged, imageIn, Checks}
+use Rattle.header_tags.specs.Bytes.{same}
+use Rattle.image.specs.Check.{valuesIn, covered, judged, imageIn, Checks}
 use Rattle.image.specs.Verdict.{releaseOf, released, checkOf, verdictOf, Judges}
 use Rattle.image.proofs.Laws.{turned}
 
@@ -136,19 +137,24 @@ still-given (gives v) e = refl
 still-given (refused n p) e = refused-gives (sym e)
 
 module _ (b : List ℕ) (r : ImageVerdict) (judges : Judges (imageIn b) r) where
+  -- what is answered, by the verdict
+  pub good-as-read : {x : Release} → r ≡ Good x → imageIn b ≡ readHeader b
+  good-as-read {x} is = told b (sym (ap verdictOf is) ∙ judges .verdict)
+
+  pub bad-as-told : (o : ImageOutcome) → r ≡ Bad o → imageIn b ≡ refused (ownOf o .number) (ownOf o .place)
+  bad-as-told o is = still-refused (imageIn b) (sym (ap verdictOf is) ∙ judges .verdict)
+
   -- a good image's header, as read
   pub good-read : {x : Release} (h : HeaderAnswer) → r ≡ Good x → Reads b h → Checks (imageIn b) (record { outcome = GoodImage; header = h .header })
   good-read {x} h is reads =
       let e : gives x ≡ released (imageIn b) = sym (ap verdictOf is) ∙ judges .verdict in
-      let k : imageIn b ≡ readHeader b = told b e in
-      let f : imageIn b ≡ gives (h .header) = still-given (imageIn b) e ∙ ap (λ (a : Answer Header). gives (valuesOf a)) k ∙ ap gives (sym (reads .values)) in
+      let f : imageIn b ≡ gives (h .header) =
+      still-given (imageIn b) e ∙ ap (λ (a : Answer Header). gives (valuesOf a)) (good-as-read is) ∙ ap gives (sym (reads .values)) in
       record { outcome = sym f; values = sym (ap valuesOf f) }
 
   -- a bad image, with a blank header
   pub bad-image : {a : ImageAnswer} (o : ImageOutcome) → r ≡ Bad o → (a .outcome ≡ o) × (a .header ≡ blank) → Checks (imageIn b) a
-  bad-image {a} o is w =
-      turned w (own-is (a .header) o (judges .bad o is))
-      (still-refused (imageIn b) (sym (ap verdictOf is) ∙ judges .verdict))
+  bad-image {a} o is w = turned w (own-is (a .header) o (judges .bad o is)) (bad-as-told o is)
 
 -- power-up's check, by the verdict
 again : (a : Answer Header) → then a (λ v. gives (v .version)) ≡ then (released a) (λ r. gives (r .version))

@@ -1,10 +1,11 @@
 -- Document 01, "Image check".
 use mathlib.Core.Path.{_≡_}
 use Prim.Native.Nat.{ℕ, _-_}
-use mathlib.Core.Bool.{Bool, true, false, cond, _&&_}
-use mathlib.Core.List.{List, [], _∷_}
-use lib.Dec.{ltb, eqb}
+use mathlib.Core.Bool.{cond}
+use mathlib.Core.List.{List}
+use lib.Dec.{ltb}
 use lib.ListN.{length, take, drop}
+use Rattle.header_tags.specs.Bytes.{same}
 use Rattle.numbers.specs.Answer.{Answer, gives, refused, then}
 use Rattle.digest_fips180.specs.Sha256.{sha256}
 use Rattle.numbers.specs.GivenBack.{imageAnswer}
@@ -14,13 +15,6 @@ use Rattle.flash.specs.declared.Geometry.{Geometry}
 use Rattle.flash.specs.Sectors.{firmwareOf}
 use Rattle.flash.specs.Buffers.{partitionOf}
 use Rattle.image.specs.declared.ImageAnswer.{ImageAnswer}
-
--- "Image check", when two digests differ: two strings of bytes are the same, or not.
-unfoldable pub same : List ℕ → List ℕ → Bool
-same [] [] = true
-same [] (y ∷ ys) = false
-same (x ∷ xs) [] = false
-same (x ∷ xs) (y ∷ ys) = eqb x y && same xs ys
 
 -- "The header": the values of the one at the front of the bytes b, whose tags stand at these places.
 abbrev pub valuesIn : List ℕ → List ℕ → Header

@@ -10,10 +10,11 @@ ghost use Prim.Native.Nat.{_≤_};
 ghost use lib.ListN.{length};
 ghost use Rattle.digest_fips180.specs.Sha256.{sha256};
 ghost use Rattle.flash.specs.Sectors.{Partition, firmwareOf};
+ghost use Rattle.header_tags.specs.Bytes.{same};
 ghost use Rattle.header_places.specs.Table.{documentTable};
 ghost use Rattle.header_places.specs.Judging.{TagsFit};
 ghost use Rattle.header_reader.specs.Reading.{valuesAt, blank};
-ghost use Rattle.image.specs.Check.{same, judged, imageIn, checkImage, Checks};
+ghost use Rattle.image.specs.Check.{judged, imageIn, checkImage, Checks};
 ghost use Rattle.image.specs.Verdict.{releaseOf, Judges};
 
 // A good image hands back its header's values. The header of a refusal is blank.

@@ -5,7 +5,9 @@ use mathlib.Core.List.{List, [], _∷_}
 use Rattle.numbers.specs.Answer.{Answer, gives, refused}
 use Rattle.numbers.specs.declared.HeaderOutcome.{HeaderOutcome}
 use Rattle.numbers.specs.declared.HeaderOutcome.the-variants.{Accepted, TooShort, WrongMagic, WrongSize, TagDoesNotFit, WrongLength, Repeated, NoEnd, Missing}
-use Rattle.numbers.specs.GivenBack.{beside, refusalOf, headerSays, badHeader}
+use Rattle.numbers.specs.declared.SheetOutcome.{SheetOutcome}
+use Rattle.numbers.specs.declared.SheetOutcome.the-variants.{Accepted as SheetAccepted, NotUnderstood, UnknownName, BadValue, RepeatedName, MissingName}
+use Rattle.numbers.specs.GivenBack.{beside, refusalOf, headerSays, badHeader, sheetSays}
 
 -- a bad header, whatever an accepted one would give
 pub bad-is : (A : Type 0) (x : Answer (Unit {0})) → refusalOf x ≡ refusalOf (badHeader {A = A} x)
@@ -27,7 +29,7 @@ pub record Refusing (x : Answer (Unit {0})) : Type 1 where
 refuses : {x : Answer (Unit {0})} (n p : ℕ) → x ≡ refused n p → Refusing x
 refuses n p e = record { number = n; place = p; says = e; is = λ a. ap (λ (y : Answer (Unit {0})). beside y a) e }
 
--- every outcome of the reader but `Accepted` is a refusal: the only law that names the cases
+-- every outcome of the reader but `Accepted` is a refusal: this law and the sheet's are the only ones that name the cases
 pub refusing : (o : HeaderOutcome) → (o ≡ Accepted → ⊥) → Refusing (headerSays o)
 refusing Accepted x = absurd (x refl)
 refusing TooShort x = refuses 16 0 refl
@@ -42,3 +44,15 @@ refusing (Missing t) x = refuses 8 t refl
 -- the cases of the reader's outcome behind `Accepted`, as an `else` branch lists them
 abbrev pub otherOutcomes : List ℕ
 otherOutcomes = 1 ∷ 2 ∷ 3 ∷ 4 ∷ 5 ∷ 6 ∷ 7 ∷ 8 ∷ []
+
+-- the same of a release sheet
+pub sheet-refusing : (o : SheetOutcome) → (o ≡ SheetAccepted → ⊥) → Refusing (sheetSays o)
+sheet-refusing SheetAccepted x = absurd (x refl)
+sheet-refusing (NotUnderstood n) x = refuses 101 n refl
+sheet-refusing (UnknownName n) x = refuses 102 n refl
+sheet-refusing (BadValue n) x = refuses 103 n refl
+sheet-refusing (RepeatedName n) x = refuses 104 n refl
+sheet-refusing (MissingName t) x = refuses 105 t refl
+
+abbrev pub otherSheetOutcomes : List ℕ
+otherSheetOutcomes = 1 ∷ 2 ∷ 3 ∷ 4 ∷ 5 ∷ []

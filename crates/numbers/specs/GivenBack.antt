@@ -5,7 +5,7 @@ use Rattle.numbers.specs.Answer.{Answer, gives, refused, Refusal, number
 use Rattle.numbers.specs.declared.HeaderOutcome.{HeaderOutcome}
 use Rattle.numbers.specs.declared.HeaderOutcome.the-variants.{Accepted, TooShort, WrongMagic, WrongSize, TagDoesNotFit, WrongLength, Repeated, NoEnd, Missing}
 use Rattle.numbers.specs.declared.WriteOutcome.{WriteOutcome}
-use Rattle.numbers.specs.declared.WriteOutcome.the-variants.{Written, TooShort as OutputTooShort, ZeroSize}
+use Rattle.numbers.specs.declared.WriteOutcome.the-variants.{Written, TooShort as OutputTooShort, WrongSize as OutputSize}
 use Rattle.numbers.specs.declared.ImageOutcome.{ImageOutcome}
 use Rattle.numbers.specs.declared.ImageOutcome.the-variants.{Good, OutsideRules, BadHeader, WrongDigest}
 use Rattle.numbers.specs.declared.PowerUpRefusal.{PowerUpRefusal}
@@ -14,6 +14,8 @@ use Rattle.numbers.specs.declared.TurnDownReason.{TurnDownReason}
 use Rattle.numbers.specs.declared.TurnDownReason.the-variants.{None, BadUpdate, NotNewer}
 use Rattle.numbers.specs.declared.CommandRefusal.{CommandRefusal}
 use Rattle.numbers.specs.declared.CommandRefusal.the-variants.{OutsideRules as CommandOutside, StatusNotAllowed as CommandStatus, FlagsMalformed as CommandFlags, WrongTime}
+use Rattle.numbers.specs.declared.SheetOutcome.{SheetOutcome}
+use Rattle.numbers.specs.declared.SheetOutcome.the-variants.{Accepted as SheetAccepted, NotUnderstood, UnknownName, BadValue, RepeatedName, MissingName}
 use Rattle.numbers.specs.declared.Refused.{Refused}
 use Rattle.numbers.specs.declared.RefusedInside.{RefusedInside}
 
@@ -57,7 +59,7 @@ headerAnswer o a = beside (headerSays o) a
 abbrev pub writerAnswer : WriteOutcome → Answer (Unit {0})
 writerAnswer Written = gives tt
 writerAnswer OutputTooShort = refused 16 0
-writerAnswer ZeroSize = refused 3 4
+writerAnswer OutputSize = refused 3 4
 
 -- ---- the image check: 1, the reader's, and 9
 
@@ -116,3 +118,18 @@ commandNumber CommandOutside = 1
 commandNumber CommandStatus = 10
 commandNumber CommandFlags = 11
 commandNumber WrongTime = 14
+
+-- ---- a release sheet: 101 to 105, which are no numbers of 01
+
+-- The place of 101 to 104 is the line's number; at 105 the missing tag's type stands for it.
+abbrev pub sheetSays : SheetOutcome → Answer (Unit {0})
+sheetSays SheetAccepted = gives tt
+sheetSays (NotUnderstood n) = refused 101 n
+sheetSays (UnknownName n) = refused 102 n
+sheetSays (BadValue n) = refused 103 n
+sheetSays (RepeatedName n) = refused 104 n
+sheetSays (MissingName t) = refused 105 t
+
+-- The outcome beside what is handed out.
+abbrev pub sheetAnswer : {A : Type 0} → SheetOutcome → A → Answer A
+sheetAnswer o a = beside (sheetSays o) a

@@ -1,7 +1,7 @@
 // What the calls of document 01 answer, and for each answer the number and the place of its table "Numbers given back".
 ghost use mathlib.Core.Path.{_≡_};
 ghost use Rattle.numbers.specs.GivenBack.{refusedAt, refusalOf, headerSays, writerAnswer, imageSays};
-ghost use Rattle.numbers.specs.GivenBack.{powerUpSays, threeNumbers, reasonOf, reasonRefusal, commandNumber};
+ghost use Rattle.numbers.specs.GivenBack.{powerUpSays, threeNumbers, reasonOf, reasonRefusal, commandNumber, sheetSays};
 
 // ---- the answers
 
@@ -25,7 +25,8 @@ pub enum WriteOutcome {
     Written,
     // The lent output is shorter than a header.
     TooShort,
-    ZeroSize,
+    // No firmware; or, where a header is made for a firmware, one that a header cannot count.
+    WrongSize,
 }
 
 // What an image is: good, or refused.
@@ -65,6 +66,18 @@ pub enum CommandRefusal {
     StatusNotAllowed,
     FlagsMalformed,
     WrongTime,
+}
+
+// What a release sheet is: accepted, or refused, with the number of its line, counted from 1.
+pub enum SheetOutcome {
+    Accepted,
+    NotUnderstood(usize),
+    UnknownName(usize),
+    // Malformed, or out of range.
+    BadValue(usize),
+    RepeatedName(usize),
+    // The type of the header's tag that has no line.
+    MissingName(usize),
 }
 
 // ---- their numbers
@@ -110,7 +123,7 @@ pub fn of_write(o: WriteOutcome) -> Refused
     match o {
         WriteOutcome::Written => refuse(0, 0),
         WriteOutcome::TooShort => refuse(16, 0),
-        WriteOutcome::ZeroSize => refuse(3, 4),
+        WriteOutcome::WrongSize => refuse(3, 4),
     }
 }
 
@@ -165,5 +178,18 @@ pub fn of_command(r: CommandRefusal) -> u32
         CommandRefusal::StatusNotAllowed => 10,
         CommandRefusal::FlagsMalformed => 11,
         CommandRefusal::WrongTime => 14,
+    }
+}
+
+pub fn of_sheet(o: SheetOutcome) -> Refused
+    ensures { λ r. ⌜ r ≡ refusalOf (sheetSays o) ⌝ }
+{
+    match o {
+        SheetOutcome::Accepted => refuse(0, 0),
+        SheetOutcome::NotUnderstood(n) => refuse(101, n),
+        SheetOutcome::UnknownName(n) => refuse(102, n),
+        SheetOutcome::BadValue(n) => refuse(103, n),
+        SheetOutcome::RepeatedName(n) => refuse(104, n),
+        SheetOutcome::MissingName(t) => refuse(105, t),
     }
 }

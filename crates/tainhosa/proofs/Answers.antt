@@ -5,19 +5,28 @@ use mathlib.Core.List.{List, [], _∷_}
 use lib.ListN.{length, set}
 use native.Mathlib.Omega.{arith}
 use borrow.Author.Tests.{eq-eqb}
-use Rattle.numbers.specs.Answer.{Answer}
+use Rattle.numbers.specs.Answer.{Answer, refused}
 use Rattle.flash.specs.Sizes.{geometry}
 use Rattle.flash.specs.Buffers.{Flash}
 use Rattle.header_reader.specs.declared.Header.{Header}
 use Rattle.header_reader.specs.declared.HeaderAnswer.{HeaderAnswer}
-use Rattle.header_reader.specs.Reading.{readHeader, valuesOf, Reads}
-use Rattle.header_writer.specs.Writing.{Write, writeHeader}
-use Rattle.image.specs.declared.ImageAnswer.{ImageAnswer}
-use Rattle.image.specs.Check.{Checks, checkImage}
+use Rattle.header_reader.specs.Reading.{readHeader, valuesOf, blank, Reads}
+use Rattle.header_writer.specs.Writing.{Write}
+use Rattle.numbers.specs.declared.ImageOutcome.{ImageOutcome}
+use Rattle.image.specs.declared.ImageVerdict.{ImageVerdict}
+use Rattle.image.specs.declared.ImageVerdict.the-variants.{Good, Bad}
+use Rattle.image.specs.declared.Release.{Release}
+use Rattle.numbers.specs.declared.ImageOutcome.the-variants.{Good as GoodImage}
+use Rattle.image.specs.Check.{imageIn}
 use Rattle.exchange.specs.PowerUp.{powerUp}
 use Rattle.exchange.specs.Commands.{Command}
-use Rattle.image.specs.Verdict.{checkOf}
-use Rattle.numbers.specs.GivenBack.{reasonOf, refusalOf, reasonRefusal, headerSays, imageSays}
+use Rattle.image.specs.Verdict.{checkOf, Judges}
+use Rattle.image.proofs.Verdicts.{good-read, bad-as-told}
+use Rattle.numbers.specs.GivenBack.{reasonOf, refusalOf, reasonRefusal, headerSays, imageSays, ownOf, sheetSays}
+use Rattle.release_values.specs.declared.Stated.{Stated}
+use Rattle.release_sheet.specs.declared.SheetAnswer.{SheetAnswer}
+use Rattle.release_sheet.specs.Reading.{readSheet, Reads as Sheet}
+use Rattle.c_release.specs.Rows.{sheetNumbers, sheetBytes}
 use Rattle.power_up.specs.declared.PowerUpAnswer.{PowerUpAnswer}
 use Rattle.power_up.specs.Delivered.{outcomeOf, answered}
 use Rattle.exchange_commands.specs.declared.CommandAnswer.{CommandAnswer}
@@ -28,7 +37,8 @@ use Rattle.c_power_up.specs.declared.Ended.{Ended}
 use Rattle.c_headers.specs.Rows.{headerNumbers, bytesOf, tagRow}
 use Rattle.c_power_up.specs.Outcomes.{endedOf, countOf, powerRow}
 use Rattle.numbers.proofs.Refusals.{beside-refusal}
-use Rattle.tainhosa.specs.Headers.{afterHeader, given, laidOut, readAnswer, checkAnswer, afterWrite, wrote, writeAnswer}
+use Rattle.tainhosa.specs.Headers.{afterHeader, given, laidOut, readAnswer, firmwareAnswer, afterWrite, wrote, wroteFrom}
+use Rattle.tainhosa.specs.Releases.{sheetRead}
 use Rattle.tainhosa.specs.Walking.{afterTag, tagAnswer}
 use Rattle.tainhosa.specs.Loading.{afterCall, poweredUp, powerUpAnswer, obeyed, commandAnswer}
 
@@ -47,11 +57,32 @@ module _ (n b : List ℕ) (x : Refused) where
       out-of (readHeader s) (r .header)
       (ex ∙ beside-refusal (headerSays (r .outcome)) (r .header) ∙ ap (λ (a : Answer Header). refusalOf a) (e .outcome)) (e .values)
 
-  pub check-laid : (k size : ℕ) (l : List ℕ) (r : ImageAnswer) → Checks (checkImage k size l) r → x ≡ refusalOf (imageSays (r .outcome))
-      → given x (r .header) n b ≡ checkAnswer k size l n b
-  check-laid k size l r e ex =
-      out-of (checkImage k size l) (r .header)
-      (ex ∙ beside-refusal (imageSays (r .outcome)) (r .header) ∙ ap (λ (a : Answer Header). refusalOf a) (e .outcome)) (e .values)
+  -- a good image, by its verdict, with its header as read
+  pub good-laid : (l : List ℕ) (r : ImageVerdict) → Judges (imageIn l) r → (h : HeaderAnswer) {z : Release} → r ≡ Good z → Reads l h
+      → x ≡ refusalOf (imageSays GoodImage) → given x (h .header) n b ≡ firmwareAnswer l n b
+  good-laid l r judges h is reads ex =
+      let e = good-read l r judges h is reads in
+      out-of (imageIn l) (h .header) (ex ∙ ap (λ (y : Answer Header). refusalOf y) (e .outcome)) (e .values)
+
+  -- an image's refusal beside blank values
+  pub refused-laid : (a : Answer Header) (v : Header) (o : ImageOutcome) → a ≡ refused (ownOf o .number) (ownOf o .place) → x ≡ refusalOf (imageSays o)
+      → v ≡ blank → given x v n b ≡ laidOut a n b
+  refused-laid a v o e ex ev = out-of a v (ex ∙ sym (ap (λ (y : Answer Header). refusalOf y) e)) (ev ∙ sym (ap valuesOf e))
+
+  -- a bad image, by its verdict
+  pub bad-laid : (l : List ℕ) (r : ImageVerdict) → Judges (imageIn l) r → (v : Header) (o : ImageOutcome) → r ≡ Bad o → x ≡ refusalOf (imageSays o) → v ≡ blank
+      → given x v n b ≡ firmwareAnswer l n b
+  bad-laid l r judges v o is ex ev = refused-laid (imageIn l) v o (bad-as-told l r judges o is) ex ev
+
+-- what a sheet states, in the caller's buffers of their lengths
+pub sheet-laid : (n b n′ b′ text : List ℕ) (x : Refused) (r : SheetAnswer) → length n ≡ 5 → length b ≡ 96 → Sheet text r
+    → x ≡ refusalOf (sheetSays (r .outcome)) → n′ ≡ sheetNumbers (x .place) (r .stated) → b′ ≡ sheetBytes (r .stated)
+    → afterHeader (x .number) n′ b′ ≡ sheetRead text n b
+sheet-laid n b n′ b′ text x r p q e ex en eb =
+    let same : x ≡ refusalOf (readSheet text) =
+    ex ∙ beside-refusal (sheetSays (r .outcome)) (r .stated) ∙ ap (λ (a : Answer Stated). refusalOf a) (e .outcome) in
+    rw (eq-eqb (length n) 5 p, eq-eqb (length b) 96 q, en, eb)
+    (ap₂ (λ (y : Refused) (w : Stated). afterHeader (y .number) (sheetNumbers (y .place) w) (sheetBytes w)) same (e .values))
 
 -- a row of one number, written
 pub one : (row : List ℕ) (x : ℕ) → length row ≡ 1 → set row 0 x ≡ x ∷ []
@@ -59,11 +90,11 @@ one [] x h = absurd (omega arith)
 one (y ∷ []) x h = refl
 one (y ∷ z ∷ zs) x h = absurd (omega arith)
 
--- a header written
-pub written : (out b row row′ : List ℕ) (v : Header) (w : Write) (x : Refused) → length b ≡ 128 → length row ≡ 1 → w ≡ writeHeader v out
+-- a header written, or made
+pub written : (k : ℕ) (out b row row′ : List ℕ) (w : Write) (x : Refused) {w′ : Write} → length b ≡ k → length row ≡ 1 → w ≡ w′
     → x ≡ refusalOf (w .answer) → row′ ≡ x .place ∷ []
-    → afterWrite (x .number) (w .bytes) row′ ≡ writeAnswer out v b row
-written out b row row′ v w x p q e ex er = rw (eq-eqb (length b) 128 p, eq-eqb (length row) 1 q, er, ex) (ap wrote e)
+    → afterWrite (x .number) (w .bytes) row′ ≡ wroteFrom k w′ out b row
+written k out b row row′ w x p q e ex er = rw (eq-eqb (length b) k p, eq-eqb (length row) 1 q, er, ex) (ap wrote e)
 
 -- a tag in a row of its length
 pub walked-on : (s : List ℕ) (p : ℕ) (row row′ : List ℕ) (a : Answer Item) (x next : ℕ) → length row ≡ 6

@@ -1,4 +1,4 @@
--- What a C caller of `tainhosa_read_header`, `tainhosa_check_image` and `tainhosa_write_header` gets.
+-- What a C caller of `tainhosa_read_header`, `tainhosa_check_image`, `tainhosa_check_firmware` and `tainhosa_write_header` gets.
 use Prim.Native.Nat.{ℕ}
 use mathlib.Core.Bool.{Bool, cond, _&&_}
 use mathlib.Core.List.{List, [], _∷_}
@@ -8,7 +8,7 @@ use Rattle.numbers.specs.Answer.{Answer}
 use Rattle.header_reader.specs.declared.Header.{Header}
 use Rattle.header_reader.specs.Reading.{bytesAt, readHeader, valuesOf}
 use Rattle.header_writer.specs.Writing.{Write, writeHeader}
-use Rattle.image.specs.Check.{checkImage}
+use Rattle.image.specs.Check.{imageIn, checkImage}
 use Rattle.numbers.specs.declared.Refused.{Refused}
 use Rattle.numbers.specs.GivenBack.{refusalOf}
 use Rattle.c_headers.specs.Rows.{headerNumbers, bytesOf}
@@ -42,6 +42,10 @@ readAnswer s n b = laidOut (readHeader s) n b
 abbrev pub checkAnswer : ℕ → ℕ → List ℕ → List ℕ → List ℕ → Given
 checkAnswer sectors size l n b = laidOut (checkImage sectors size l) n b
 
+-- "Image check" without check 1: what it says of an image in the bytes l, which stand for the firmware sectors.
+abbrev pub firmwareAnswer : List ℕ → List ℕ → List ℕ → Given
+firmwareAnswer l n b = laidOut (imageIn l) n b
+
 -- The values to write: the numbers, and digest, signature and hint as they stand in b.
 abbrev pub valuesFrom : ℕ → ℕ → ℕ → ℕ → Bool → List ℕ → Header
 valuesFrom size version timestamp auth hint b =
@@ -70,7 +74,11 @@ afterWrite r out row = record { answer = r; out = out; row = row }
 abbrev pub wrote : Write → Wrote
 wrote w = afterWrite (refusalOf (w .answer) .number) (w .bytes) (refusalOf (w .answer) .place ∷ [])
 
--- The bytes b are 128, and the row has 1 number; else 1, and output and row stay as they were.
+-- What a call that writes gives back, where it is lent k bytes of values b and a row of 1 number; else 1, and output and row stay as they
+-- were.
+abbrev pub wroteFrom : ℕ → Write → List ℕ → List ℕ → List ℕ → Wrote
+wroteFrom k w out b row = cond (eqb (length b) k && eqb (length row) 1) (wrote w) (afterWrite 1 out row)
+
+-- "The header": what the writer makes of the values, of which 128 bytes are lent.
 abbrev pub writeAnswer : List ℕ → Header → List ℕ → List ℕ → Wrote
-writeAnswer out v b row =
-    cond (eqb (length b) 128 && eqb (length row) 1) (wrote (writeHeader v out)) (afterWrite 1 out row)
+writeAnswer out v b row = wroteFrom 128 (writeHeader v out) out b row

@@ -3,3 +3,4 @@ pub mod Digest
 pub mod Headers
 pub mod Walking
 pub mod Loading
+pub mod Releases

@@ -1,11 +1,16 @@
 // The C interface of the library. A C caller passes a slice as a pointer and a length. Every answer is 0 or a refusal's number;
 // a buffer of another length than documented is refusal 1, and nothing changes.
+use flash::GeometryAnswer;
 use header_reader::Header;
+use image::ImageVerdict;
+use numbers::ImageOutcome;
 use numbers::Refused;
+use release_values::Stated;
 ghost use mathlib.Core.Path.{_≡_};
 ghost use Rattle.flash.specs.Buffers.{lent};
 ghost use Rattle.tainhosa.specs.Digest.{afterDigest, sha256Answer};
-ghost use Rattle.tainhosa.specs.Headers.{afterHeader, given, readAnswer, checkAnswer, valuesFrom, afterWrite, writeAnswer};
+ghost use Rattle.tainhosa.specs.Headers.{afterHeader, given, readAnswer, checkAnswer, firmwareAnswer, valuesFrom, afterWrite, writeAnswer};
+ghost use Rattle.tainhosa.specs.Releases.{sheetRead, statedFrom, makeAnswer};
 ghost use Rattle.tainhosa.specs.Walking.{afterTag, tagAnswer};
 ghost use Rattle.tainhosa.specs.Loading.{afterCall, powerUpAnswer, armAnswer, confirmAnswer};
 
@@ -15,6 +20,11 @@ const HEADER_NUMBERS: usize = 6;
 const HEADER_BYTES: usize = 128;
 
 const DIGEST_BYTES: usize = 32;
+
+// How many numbers and bytes a release sheet's values are.
+const SHEET_NUMBERS: usize = 5;
+
+const SHEET_BYTES: usize = 96;
 
 // The rows of the other calls.
 const WRITE_NUMBERS: usize = 1;
@@ -68,7 +78,27 @@ pub extern "C" fn tainhosa_read_header(input: &[u8], numbers: &mut [u64], bytes:
     give(numbers, bytes, numbers::of_header(outcome), v)
 }
 
-// Checks the image of a partition.
+// Checks an image that lies by itself: the lent bytes stand for the firmware sectors.
+#[no_mangle]
+pub extern "C" fn tainhosa_check_firmware(
+    firmware: &[u8],
+    numbers: &mut [u64],
+    bytes: &mut [u8],
+) -> u32
+    ensures { λ r. ⌜ afterHeader r (now (numbers .exit)) (now (bytes .exit))
+        ≡ firmwareAnswer (now (firmware .entry)) (now (numbers .entry)) (now (bytes .entry)) ⌝ }
+{
+    match image::judge(firmware) {
+        ImageVerdict::Good(_) => {
+            let read = header_reader::read_header(firmware);
+            let v = read.header;
+            give(numbers, bytes, numbers::of_image(ImageOutcome::Good), v)
+        }
+        ImageVerdict::Bad(o) => give(numbers, bytes, numbers::of_image(o), Header::blank()),
+    }
+}
+
+// Checks the image of a partition: it is the one that its firmware sectors hold.
 #[no_mangle]
 pub extern "C" fn tainhosa_check_image(
     sectors: usize,
@@ -80,10 +110,19 @@ pub extern "C" fn tainhosa_check_image(
     ensures { λ r. ⌜ afterHeader r (now (numbers .exit)) (now (bytes .exit))
         ≡ checkAnswer sectors size (now (partition .entry)) (now (numbers .entry)) (now (bytes .entry)) ⌝ }
 {
-    let checked = image::check_image(sectors, size, partition);
-    let outcome = checked.outcome;
-    let v = checked.header;
-    give(numbers, bytes, numbers::of_image(outcome), v)
+    match flash::check_partition(sectors, size, partition) {
+        GeometryAnswer::Fits(g) => tainhosa_check_firmware(
+            flash_sectors::firmware_part(g, partition),
+            numbers,
+            bytes,
+        ),
+        GeometryAnswer::Outside => give(
+            numbers,
+            bytes,
+            numbers::of_image(ImageOutcome::OutsideRules),
+            Header::blank(),
+        ),
+    }
 }
 
 // Writes a header into the first 256 bytes of the output. The bytes are the digest, the signature and the hint; the row takes the
@@ -123,6 +162,64 @@ pub extern "C" fn tainhosa_write_header(
         hint,
     };
     let refused = numbers::of_write(header_writer::write_header(out, v));
+    place[0] = refused.place as u64;
+    refused.number
+}
+
+// Reads a release sheet.
+#[no_mangle]
+pub extern "C" fn tainhosa_read_sheet(text: &[u8], numbers: &mut [u64], bytes: &mut [u8]) -> u32
+    ensures { λ r. ⌜ afterHeader r (now (numbers .exit)) (now (bytes .exit))
+        ≡ sheetRead (now (text .entry)) (now (numbers .entry)) (now (bytes .entry)) ⌝ }
+{
+    if numbers.len() != SHEET_NUMBERS {
+        return WRONG_LENGTH;
+    }
+    if bytes.len() != SHEET_BYTES {
+        return WRONG_LENGTH;
+    }
+    let read = release_sheet::read_sheet(text);
+    let outcome = read.outcome;
+    let v = read.stated;
+    let refused = numbers::of_sheet(outcome);
+    c_release::put_stated(numbers, bytes, refused.place as u64, v);
+    refused.number
+}
+
+// Makes the header of a firmware in the first 256 bytes of the output: size and digest are the firmware's. The bytes are the signature and
+// the hint; the row takes the place of a refusal.
+#[no_mangle]
+pub extern "C" fn tainhosa_make_header(
+    out: &mut [u8],
+    firmware: &[u8],
+    version: u32,
+    timestamp: u64,
+    auth_type: u16,
+    has_hint: bool,
+    bytes: &[u8],
+    place: &mut [u64],
+) -> u32
+    ensures { λ r. ⌜ afterWrite r (now (out .exit)) (now (place .exit))
+        ≡ makeAnswer (now (out .entry)) (now (firmware .entry)) (statedFrom version timestamp «auth_type» «has_hint» (now (bytes .entry)))
+        (now (bytes .entry)) (now (place .entry)) ⌝ }
+{
+    if bytes.len() != SHEET_BYTES {
+        return WRONG_LENGTH;
+    }
+    if place.len() != WRITE_NUMBERS {
+        return WRONG_LENGTH;
+    }
+    let signature = header_reader::copy_64(bytes, 0);
+    let hint = header_reader::copy_32(bytes, 64);
+    let v = Stated {
+        version,
+        timestamp,
+        auth_type,
+        signature,
+        has_hint,
+        hint,
+    };
+    let refused = numbers::of_write(release_header::make_header(out, firmware, v));
     place[0] = refused.place as u64;
     refused.number
 }

@@ -1,6 +1,6 @@
 -- `has_digest` meets its contract. Assumes nothing.
 use mathlib.Core.Path.{sym, _∙_}
-use Rattle.image.proofs.Laws.{same-is}
+use Rattle.header_tags.proofs.Same.{same-is}
 use borrow.Author.Needs.{needs}
 use Rattle.image.proofs.has_digest.Statement.{statement}
 use Rattle.image.proofs.has_digest.Tie as tie

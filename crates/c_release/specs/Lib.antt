@@ -1,0 +1,2 @@
+-- The rows of what a release sheet states.
+pub mod Rows

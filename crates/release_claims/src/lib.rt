@@ -1,0 +1,1 @@
+// What holds of the reader of a release sheet: theorems only.

@@ -1,0 +1,2 @@
+-- The digits of a release sheet's values.
+pub mod Digits

@@ -1,0 +1,2 @@
+-- Laws of the making.
+pub mod Answers

@@ -1,0 +1,2 @@
+-- The making of a firmware's header.
+pub mod Making

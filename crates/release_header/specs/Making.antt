@@ -1,0 +1,32 @@
+-- Document 01, "The header", as it is made for a firmware: size and digest from the firmware, the other values as they are stated.
+use Prim.Native.Nat.{ℕ, _^_}
+use mathlib.Core.List.{List}
+use mathlib.Core.Bool.{cond, _||_}
+use lib.Dec.{ltb, leb, eqb}
+use lib.ListN.{length}
+use Rattle.numbers.specs.Answer.{refused}
+use Rattle.digest_fips180.specs.Sha256.{sha256}
+use Rattle.header_reader.specs.declared.Header.{Header}
+use Rattle.header_writer.specs.Writing.{Write, write, writeHeader}
+use Rattle.release_values.specs.declared.Stated.{Stated}
+
+-- The values: how many bytes the firmware has, and its SHA-256 digest, over the firmware alone; the rest is what is stated.
+abbrev pub headerFor : Stated → List ℕ → Header
+headerFor v firmware =
+    record {
+      size = length firmware;
+      version = v .version;
+      timestamp = v .timestamp;
+      digest = sha256 firmware;
+      signature = v .signature;
+      «auth_type» = v .«auth_type»;
+      «has_hint» = v .«has_hint»;
+      hint = v .hint;
+    }
+
+-- The writer's refusals in the writer's order: an output below 256 bytes is 16; then a firmware without a byte, or of 2 ^ 32 bytes or more,
+-- which the header's four bytes cannot count, is 3. Both leave the output alone. Else the output is what the writer makes of these values.
+unfoldable pub makeHeader : Stated → List ℕ → List ℕ → Write
+makeHeader v firmware out =
+    cond (ltb (length out) 256) (write (refused 16 0) out)
+    (cond (eqb (length firmware) 0 || leb (2 ^ 32) (length firmware)) (write (refused 3 4) out) (writeHeader (headerFor v firmware) out))

@@ -1,0 +1,2 @@
+-- The lines of a release sheet.
+pub mod Lines

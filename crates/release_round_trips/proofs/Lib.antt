@@ -1,0 +1,4 @@
+-- The proofs of the statements of specs/.
+pub mod Good
+pub mod Refusing
+pub mod FromSheet

@@ -1,0 +1,1 @@
+// The theorems on a firmware's header as it is made: definitions and proofs only.

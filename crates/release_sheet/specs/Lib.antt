@@ -1,0 +1,2 @@
+-- A release sheet: what its text states.
+pub mod Reading

@@ -1,0 +1,2 @@
+-- What a release sheet states.
+pub mod Stated
