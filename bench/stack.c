@@ -21,6 +21,7 @@ static ucontext_t here, there;
 static uint8_t boot[LENGTH], update[LENGTH], swap[SIZE], header[TAINHOSA_HEADER_LENGTH];
 static uint64_t numbers[6];
 static uint8_t bytes[128], digest[32];
+static char sheet[512];
 static uint32_t answer;
 static size_t at;
 
@@ -86,9 +87,35 @@ static void confirm(void)
     answer = tainhosa_confirm(SECTORS, SIZE, boot, LENGTH, update, LENGTH, swap, SIZE, numbers, 1);
 }
 
+static void check_firmware(void)
+{
+    answer = tainhosa_check_firmware(boot, LENGTH - SIZE, numbers, 6, bytes, 128);
+}
+
+static void read_sheet(void)
+{
+    answer = tainhosa_read_sheet((const uint8_t *)sheet, strlen(sheet), numbers, TAINHOSA_SHEET_NUMBERS, bytes, TAINHOSA_SHEET_BYTES);
+}
+
+static void make_header(void)
+{
+    answer = tainhosa_make_header(header, sizeof header, boot, LENGTH - 5, 7, 1700000000, 512, true, bytes, TAINHOSA_SHEET_BYTES, numbers, 1);
+}
+
+/* A sheet with a hint: 32 and 64 bytes as hexadecimal digits. */
+static void make_sheet(void)
+{
+    size_t n = (size_t)snprintf(sheet, sizeof sheet, "version 7\ntimestamp 1700000000\nauth 512\nsignature ");
+    memset(sheet + n, 'a', 128);
+    n += 128;
+    n += (size_t)snprintf(sheet + n, sizeof sheet - n, "\nhint ");
+    memset(sheet + n, 'b', 64);
+    sheet[n + 64] = '\n';
+}
+
 /* ---- What each took */
 
-enum { READ_HEADER, CHECK_IMAGE, POWER_UP, ARM, CONFIRM, SHA256, WRITE_HEADER, NEXT_TAG, CALLS };
+enum { READ_HEADER, CHECK_IMAGE, POWER_UP, ARM, CONFIRM, SHA256, WRITE_HEADER, NEXT_TAG, CHECK_FIRMWARE, READ_SHEET, MAKE_HEADER, CALLS };
 
 enum { WRITTEN, PADDED, KINDS };
 
@@ -100,6 +127,8 @@ static const struct {
     {"tainhosa_power_up", power_up},         {"tainhosa_arm", arm},
     {"tainhosa_confirm", confirm},           {"tainhosa_sha256", sha256},
     {"tainhosa_write_header", write_header}, {"tainhosa_next_tag", next_tag},
+    {"tainhosa_check_firmware", check_firmware}, {"tainhosa_read_sheet", read_sheet},
+    {"tainhosa_make_header", make_header},
 };
 
 static long most[KINDS][CALLS];
@@ -151,9 +180,13 @@ int main(void)
     take(READ_HEADER, TAINHOSA_OK);
     at = TAINHOSA_FIRST_TAG;
     take(NEXT_TAG, TAINHOSA_OK);
+    make_sheet();
+    take(READ_SHEET, TAINHOSA_OK);
+    take(MAKE_HEADER, TAINHOSA_OK);
 
     /* Plain, an update, a fallback, an update that is kept, one that is turned down, and a digest that is wrong. */
     take(CHECK_IMAGE, TAINHOSA_OK);
+    take(CHECK_FIRMWARE, TAINHOSA_OK);
     take(POWER_UP, TAINHOSA_OK);
     expect_outcome(TAINHOSA_RUN);
     take(ARM, TAINHOSA_OK);
@@ -172,6 +205,7 @@ int main(void)
     expect_outcome(TAINHOSA_RUN);
     boot[1000] ^= 1;
     take(CHECK_IMAGE, TAINHOSA_WRONG_DIGEST);
+    take(CHECK_FIRMWARE, TAINHOSA_WRONG_DIGEST);
     take(POWER_UP, TAINHOSA_BAD_BOOT);
     take(CONFIRM, TAINHOSA_WRONG_TIME);
     boot[1000] ^= 1;

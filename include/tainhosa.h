@@ -9,6 +9,8 @@
  * thing that a call looks at. The refusals of a call are named in the order in which it comes to them. A refusal has a place, in
  * the buffer that the call says; where none is named, here or at the call, the place is 0.
  *
+ * At the end of this file each call stands once more, over structs: there no length and no place of a row is typed by hand.
+ *
  * The archive is for x86-64 with SSE2, and its code uses the red zone below the stack pointer: an interrupt handler on the same
  * stack must leave these 128 bytes alone. BOOT, UPDATE and SWAP are buffers in memory: a store to them stands for an operation of the
  * flash, and it is the caller's part that it becomes one.
@@ -22,6 +24,20 @@
 
 #ifdef __cplusplus
 extern "C" {
+#endif
+
+/* ---- The version of this interface, and its number: 10000 for each major, 100 for each minor */
+
+#define TAINHOSA_VERSION_MAJOR 0
+#define TAINHOSA_VERSION_MINOR 2
+#define TAINHOSA_VERSION_PATCH 0
+#define TAINHOSA_VERSION_NUMBER (TAINHOSA_VERSION_MAJOR * 10000 + TAINHOSA_VERSION_MINOR * 100 + TAINHOSA_VERSION_PATCH)
+
+/* Of every call: its answer is to be looked at, and no pointer is null. A compiler that knows how to warns where it is not so. */
+#if defined(__GNUC__)
+#define TAINHOSA_CALL __attribute__((warn_unused_result, nonnull))
+#else
+#define TAINHOSA_CALL
 #endif
 
 /* ---- Answers */
@@ -43,6 +59,13 @@ extern "C" {
 #define TAINHOSA_WRONG_TIME 14        /* arm or confirm when it is not allowed */
 #define TAINHOSA_NOT_NEWER 15         /* only as the reason why an update was turned down */
 #define TAINHOSA_SHORT_HEADER 16      /* fewer than 256 bytes to read or write a header; at 0 */
+
+/* Of a release sheet; the line, counted from 1, stands for the place. */
+#define TAINHOSA_LINE_NOT_UNDERSTOOD 101 /* no space in it */
+#define TAINHOSA_NAME_NOT_KNOWN 102
+#define TAINHOSA_VALUE_NOT_ALLOWED 103   /* malformed, or out of range */
+#define TAINHOSA_NAME_REPEATED 104
+#define TAINHOSA_NAME_MISSING 105        /* in the place of a line: the type of the header's tag that is missing */
 
 /* ---- The header: 256 bytes, then the firmware */
 
@@ -90,11 +113,11 @@ extern "C" {
  * OK: numbers (6) and bytes (128) hold the header's values; without a hint its 32 bytes are 0.
  * Refused with 16, 2, 3 (size 0 only), 4, 5, 6, 7 or 8: numbers[TAINHOSA_HEADER_PLACE] is the place, all else in both is 0.
  */
-uint32_t tainhosa_read_header(const uint8_t *input, size_t input_length,
-                              uint64_t *numbers, size_t numbers_length,
-                              uint8_t *bytes, size_t bytes_length);
+TAINHOSA_CALL uint32_t tainhosa_read_header(const uint8_t *input, size_t input_length,
+                                            uint64_t *numbers, size_t numbers_length,
+                                            uint8_t *bytes, size_t bytes_length);
 
-/* What the writer answers: one number, the place of a refusal. */
+/* What the writer answers, and tainhosa_make_header: one number, the place of a refusal. */
 #define TAINHOSA_WRITE_NUMBERS 1
 #define TAINHOSA_WRITE_PLACE 0
 
@@ -105,10 +128,10 @@ uint32_t tainhosa_read_header(const uint8_t *input, size_t input_length,
  * Refused with 1 (bytes are not 128, or place is not 1 number): nothing changes. With 16 or 3 (size 0 only): out stays as it was,
  * and place[0] is the place.
  */
-uint32_t tainhosa_write_header(uint8_t *out, size_t out_length,
-                               uint32_t size, uint32_t version, uint64_t timestamp, uint16_t auth_type, bool has_hint,
-                               const uint8_t *bytes, size_t bytes_length,
-                               uint64_t *place, size_t place_length);
+TAINHOSA_CALL uint32_t tainhosa_write_header(uint8_t *out, size_t out_length,
+                                             uint32_t size, uint32_t version, uint64_t timestamp, uint16_t auth_type, bool has_hint,
+                                             const uint8_t *bytes, size_t bytes_length,
+                                             uint64_t *place, size_t place_length);
 
 /* A tag: a row of 6. */
 #define TAINHOSA_TAG_NUMBERS 6
@@ -126,8 +149,53 @@ uint32_t tainhosa_write_header(uint8_t *out, size_t out_length,
  * Refused with 16 (the input is below 256 bytes), 7 (`at` is 256 or above, or only padding is left) or 4: tag holds the place of
  * the refusal and the place that was passed, all else is 0. Asked again there, the end and a refusal come again.
  */
-uint32_t tainhosa_next_tag(const uint8_t *input, size_t input_length, size_t at,
-                           uint64_t *tag, size_t tag_length);
+TAINHOSA_CALL uint32_t tainhosa_next_tag(const uint8_t *input, size_t input_length, size_t at,
+                                         uint64_t *tag, size_t tag_length);
+
+/* ---- The release sheet: what a header states beside the size and the digest of its firmware */
+
+/* A sheet's numbers: a row of 5, the first of them the line of a refusal, 0 where there is none. */
+#define TAINHOSA_SHEET_NUMBERS 5
+#define TAINHOSA_SHEET_LINE 0
+#define TAINHOSA_SHEET_VERSION 1
+#define TAINHOSA_SHEET_TIMESTAMP 2
+#define TAINHOSA_SHEET_AUTH_TYPE 3
+#define TAINHOSA_SHEET_HAS_HINT 4     /* 1 with a hint, 0 without */
+
+/* A sheet's bytes: 96, the signature at 0, the hint at 64. */
+#define TAINHOSA_SHEET_BYTES 96
+#define TAINHOSA_SHEET_SIGNATURE_AT 0
+#define TAINHOSA_SHEET_HINT_AT 64
+
+/*
+ * Reads the text of a release sheet. A line ends at LF; the last one may lack it. Empty lines, and lines whose first byte is #, are
+ * passed over. Every other line is a name, one space and a value, and each of these names stands exactly once, in any order:
+ *   version      decimal digits, a number below 2^32
+ *   timestamp    decimal digits, a number below 2^64
+ *   auth         decimal digits, a number below 2^16
+ *   signature    128 hexadecimal digits, of either case
+ *   hint         64 hexadecimal digits, or the word no
+ * OK: numbers (5) and bytes (96) hold the sheet's values; without a hint its 32 bytes are 0.
+ * Refused by the first line that does not fit, with 101, 102, 103 or 104, looked at in this order; or with 105, where every line fits
+ * and a name is missing: numbers[TAINHOSA_SHEET_LINE] is the line, of 105 the smallest type that is missing; all else in both is 0.
+ */
+TAINHOSA_CALL uint32_t tainhosa_read_sheet(const uint8_t *text, size_t text_length,
+                                           uint64_t *numbers, size_t numbers_length,
+                                           uint8_t *bytes, size_t bytes_length);
+
+/*
+ * Makes the header of a firmware in the first 256 bytes of out, and leaves the bytes behind them: size and digest are those of the
+ * firmware, all else is passed, as a sheet states it. The bytes (96) hold the signature and the hint; without a hint the last 32 are
+ * not used. An image is this header and then the firmware.
+ * OK: the header stands in out; place[0] is 0.
+ * Refused with 1 (bytes are not 96, or place is not 1 number): nothing changes. With 16 or 3 (the firmware is empty, or of 2^32 bytes
+ * or more): out stays as it was, and place[0] is the place.
+ */
+TAINHOSA_CALL uint32_t tainhosa_make_header(uint8_t *out, size_t out_length,
+                                            const uint8_t *firmware, size_t firmware_length,
+                                            uint32_t version, uint64_t timestamp, uint16_t auth_type, bool has_hint,
+                                            const uint8_t *bytes, size_t bytes_length,
+                                            uint64_t *place, size_t place_length);
 
 /* ---- Images and flash */
 
@@ -161,10 +229,21 @@ uint32_t tainhosa_next_tag(const uint8_t *input, size_t input_length, size_t at,
  * Refused with 1 (the geometry or the partition's length), what tainhosa_read_header refuses, 3 (firmware too large) or 9:
  * numbers[TAINHOSA_HEADER_PLACE] is the place, all else in both is 0.
  */
-uint32_t tainhosa_check_image(size_t sectors, size_t size,
-                              const uint8_t *partition, size_t partition_length,
-                              uint64_t *numbers, size_t numbers_length,
-                              uint8_t *bytes, size_t bytes_length);
+TAINHOSA_CALL uint32_t tainhosa_check_image(size_t sectors, size_t size,
+                                            const uint8_t *partition, size_t partition_length,
+                                            uint64_t *numbers, size_t numbers_length,
+                                            uint8_t *bytes, size_t bytes_length);
+
+/*
+ * Checks an image that stands alone, as in a file: as tainhosa_check_image, without a geometry. The bytes lent stand for the firmware
+ * sectors, and those behind the firmware are not looked at.
+ * OK: numbers (6) and bytes (128) hold the header's values.
+ * Refused with what tainhosa_read_header refuses, 3 (the firmware is longer than the bytes behind the header) or 9:
+ * numbers[TAINHOSA_HEADER_PLACE] is the place, all else in both is 0.
+ */
+TAINHOSA_CALL uint32_t tainhosa_check_firmware(const uint8_t *image, size_t image_length,
+                                               uint64_t *numbers, size_t numbers_length,
+                                               uint8_t *bytes, size_t bytes_length);
 
 /* A power-up's answer: a row of 6. */
 #define TAINHOSA_POWER_UP_NUMBERS 6
@@ -202,12 +281,12 @@ uint32_t tainhosa_check_image(size_t sectors, size_t size,
  * image's own number and place. The flash stays as it was and the count is 0; only 12 can come after operations: they stay done and
  * are counted, and beside it the reason of a turning down may stand.
  */
-uint32_t tainhosa_power_up(size_t sectors, size_t size,
-                           uint8_t *boot, size_t boot_length,
-                           uint8_t *update, size_t update_length,
-                           uint8_t *swap, size_t swap_length,
-                           uint64_t budget,
-                           uint64_t *answer, size_t answer_length);
+TAINHOSA_CALL uint32_t tainhosa_power_up(size_t sectors, size_t size,
+                                         uint8_t *boot, size_t boot_length,
+                                         uint8_t *update, size_t update_length,
+                                         uint8_t *swap, size_t swap_length,
+                                         uint64_t budget,
+                                         uint64_t *answer, size_t answer_length);
 
 /* The answer of arm and confirm: one number, the operations done; 0 beside a refusal. The place of each refusal is 0. */
 #define TAINHOSA_COMMAND_NUMBERS 1
@@ -218,22 +297,22 @@ uint32_t tainhosa_power_up(size_t sectors, size_t size,
  * OK: UPDATE's trailer is erased and its status is UPDATING; count[0] is 2.
  * Refused with 1, 10 or 14: the flash stays as it was.
  */
-uint32_t tainhosa_arm(size_t sectors, size_t size,
-                      uint8_t *boot, size_t boot_length,
-                      uint8_t *update, size_t update_length,
-                      uint8_t *swap, size_t swap_length,
-                      uint64_t *count, size_t count_length);
+TAINHOSA_CALL uint32_t tainhosa_arm(size_t sectors, size_t size,
+                                    uint8_t *boot, size_t boot_length,
+                                    uint8_t *update, size_t update_length,
+                                    uint8_t *swap, size_t swap_length,
+                                    uint64_t *count, size_t count_length);
 
 /*
  * Keeps the image that runs on test: BOOT has to be TESTING, UPDATE NEW, and no fallback begun.
  * OK: BOOT's status is SUCCESS; count[0] is 1.
  * Refused with 1, 10, 14 (another pair of statuses), 11 or 14 (a fallback has begun), in this order: the flash stays as it was.
  */
-uint32_t tainhosa_confirm(size_t sectors, size_t size,
-                          uint8_t *boot, size_t boot_length,
-                          uint8_t *update, size_t update_length,
-                          uint8_t *swap, size_t swap_length,
-                          uint64_t *count, size_t count_length);
+TAINHOSA_CALL uint32_t tainhosa_confirm(size_t sectors, size_t size,
+                                        uint8_t *boot, size_t boot_length,
+                                        uint8_t *update, size_t update_length,
+                                        uint8_t *swap, size_t swap_length,
+                                        uint64_t *count, size_t count_length);
 
 /* ---- SHA-256 */
 
@@ -242,8 +321,193 @@ uint32_t tainhosa_confirm(size_t sectors, size_t size,
  * OK: digest (32) holds it.
  * Refused with 1 only, and then digest stays as it was.
  */
-uint32_t tainhosa_sha256(const uint8_t *message, size_t message_length,
-                         uint8_t *digest, size_t digest_length);
+TAINHOSA_CALL uint32_t tainhosa_sha256(const uint8_t *message, size_t message_length,
+                                       uint8_t *digest, size_t digest_length);
+
+/* ---- The calls over structs. Above each stands the call that it hands on to, which says what is done and what is refused. */
+
+/* The values of a header, and the place of a refusal. Without a hint, its bytes are 0 when read and not used when written. */
+struct tainhosa_header {
+    uint64_t place;
+    uint32_t size;
+    uint32_t version;
+    uint64_t timestamp;
+    uint16_t auth_type;
+    bool has_hint;
+    uint8_t digest[TAINHOSA_DIGEST_BYTES];
+    uint8_t signature[TAINHOSA_SIGNATURE_BYTES];
+    uint8_t hint[TAINHOSA_HINT_BYTES];
+};
+
+/* The values of a release sheet, and the line of a refusal (of 105 the type). */
+struct tainhosa_sheet {
+    uint64_t line;
+    uint32_t version;
+    uint64_t timestamp;
+    uint16_t auth_type;
+    bool has_hint;
+    uint8_t signature[TAINHOSA_SIGNATURE_BYTES];
+    uint8_t hint[TAINHOSA_HINT_BYTES];
+};
+
+/* A tag, or none. */
+struct tainhosa_tag {
+    uint64_t refused_at;
+    bool found;
+    size_t place;
+    uint16_t type;
+    uint16_t length;
+    size_t next;
+};
+
+/* A geometry and the three buffers, with the lengths that they have. */
+struct tainhosa_flash {
+    size_t sectors;
+    size_t size;
+    uint8_t *boot;
+    size_t boot_length;
+    uint8_t *update;
+    size_t update_length;
+    uint8_t *swap;
+    size_t swap_length;
+};
+
+/* What a power-up answers beside its number. */
+struct tainhosa_power_up_answer {
+    uint32_t outcome;
+    uint64_t count;
+    uint32_t inner;
+    uint64_t inner_place;
+    uint32_t reason;
+    uint64_t reason_place;
+};
+
+/* For the functions below. */
+static inline void tainhosa_copy_bytes(uint8_t *to, const uint8_t *from, size_t count) {
+    size_t i;
+    for (i = 0; i < count; i++) {
+        to[i] = from[i];
+    }
+}
+
+static inline void tainhosa_header_fill(struct tainhosa_header *header, const uint64_t *numbers, const uint8_t *bytes) {
+    header->place = numbers[TAINHOSA_HEADER_PLACE];
+    header->size = (uint32_t)numbers[TAINHOSA_HEADER_SIZE];
+    header->version = (uint32_t)numbers[TAINHOSA_HEADER_VERSION];
+    header->timestamp = numbers[TAINHOSA_HEADER_TIMESTAMP];
+    header->auth_type = (uint16_t)numbers[TAINHOSA_HEADER_AUTH_TYPE];
+    header->has_hint = numbers[TAINHOSA_HEADER_HAS_HINT] != 0;
+    tainhosa_copy_bytes(header->digest, bytes + TAINHOSA_DIGEST_AT, TAINHOSA_DIGEST_BYTES);
+    tainhosa_copy_bytes(header->signature, bytes + TAINHOSA_SIGNATURE_AT, TAINHOSA_SIGNATURE_BYTES);
+    tainhosa_copy_bytes(header->hint, bytes + TAINHOSA_HINT_AT, TAINHOSA_HINT_BYTES);
+}
+
+/* tainhosa_read_header */
+TAINHOSA_CALL static inline uint32_t tainhosa_header_read(const uint8_t *input, size_t input_length, struct tainhosa_header *header) {
+    uint64_t numbers[TAINHOSA_HEADER_NUMBERS] = {0};
+    uint8_t bytes[TAINHOSA_HEADER_BYTES] = {0};
+    uint32_t answer = tainhosa_read_header(input, input_length, numbers, TAINHOSA_HEADER_NUMBERS, bytes, TAINHOSA_HEADER_BYTES);
+    tainhosa_header_fill(header, numbers, bytes);
+    return answer;
+}
+
+/* tainhosa_write_header; the header's own place is not used. */
+TAINHOSA_CALL static inline uint32_t tainhosa_header_write(uint8_t *out, size_t out_length, const struct tainhosa_header *header,
+                                                           uint64_t *place) {
+    uint8_t bytes[TAINHOSA_HEADER_BYTES];
+    tainhosa_copy_bytes(bytes + TAINHOSA_DIGEST_AT, header->digest, TAINHOSA_DIGEST_BYTES);
+    tainhosa_copy_bytes(bytes + TAINHOSA_SIGNATURE_AT, header->signature, TAINHOSA_SIGNATURE_BYTES);
+    tainhosa_copy_bytes(bytes + TAINHOSA_HINT_AT, header->hint, TAINHOSA_HINT_BYTES);
+    return tainhosa_write_header(out, out_length, header->size, header->version, header->timestamp, header->auth_type,
+                                 header->has_hint, bytes, TAINHOSA_HEADER_BYTES, place, TAINHOSA_WRITE_NUMBERS);
+}
+
+/* tainhosa_make_header; the sheet's own line is not used. */
+TAINHOSA_CALL static inline uint32_t tainhosa_header_make(uint8_t *out, size_t out_length,
+                                                          const uint8_t *firmware, size_t firmware_length,
+                                                          const struct tainhosa_sheet *sheet, uint64_t *place) {
+    uint8_t bytes[TAINHOSA_SHEET_BYTES];
+    tainhosa_copy_bytes(bytes + TAINHOSA_SHEET_SIGNATURE_AT, sheet->signature, TAINHOSA_SIGNATURE_BYTES);
+    tainhosa_copy_bytes(bytes + TAINHOSA_SHEET_HINT_AT, sheet->hint, TAINHOSA_HINT_BYTES);
+    return tainhosa_make_header(out, out_length, firmware, firmware_length, sheet->version, sheet->timestamp, sheet->auth_type,
+                                sheet->has_hint, bytes, TAINHOSA_SHEET_BYTES, place, TAINHOSA_WRITE_NUMBERS);
+}
+
+/* tainhosa_read_sheet */
+TAINHOSA_CALL static inline uint32_t tainhosa_sheet_read(const uint8_t *text, size_t text_length, struct tainhosa_sheet *sheet) {
+    uint64_t numbers[TAINHOSA_SHEET_NUMBERS] = {0};
+    uint8_t bytes[TAINHOSA_SHEET_BYTES] = {0};
+    uint32_t answer = tainhosa_read_sheet(text, text_length, numbers, TAINHOSA_SHEET_NUMBERS, bytes, TAINHOSA_SHEET_BYTES);
+    sheet->line = numbers[TAINHOSA_SHEET_LINE];
+    sheet->version = (uint32_t)numbers[TAINHOSA_SHEET_VERSION];
+    sheet->timestamp = numbers[TAINHOSA_SHEET_TIMESTAMP];
+    sheet->auth_type = (uint16_t)numbers[TAINHOSA_SHEET_AUTH_TYPE];
+    sheet->has_hint = numbers[TAINHOSA_SHEET_HAS_HINT] != 0;
+    tainhosa_copy_bytes(sheet->signature, bytes + TAINHOSA_SHEET_SIGNATURE_AT, TAINHOSA_SIGNATURE_BYTES);
+    tainhosa_copy_bytes(sheet->hint, bytes + TAINHOSA_SHEET_HINT_AT, TAINHOSA_HINT_BYTES);
+    return answer;
+}
+
+/* tainhosa_next_tag: begin at TAINHOSA_FIRST_TAG, and while a tag is found go on at tag->next. */
+TAINHOSA_CALL static inline uint32_t tainhosa_tag_next(const uint8_t *input, size_t input_length, size_t at, struct tainhosa_tag *tag) {
+    uint64_t numbers[TAINHOSA_TAG_NUMBERS] = {0};
+    uint32_t answer = tainhosa_next_tag(input, input_length, at, numbers, TAINHOSA_TAG_NUMBERS);
+    tag->refused_at = numbers[TAINHOSA_TAG_REFUSED_AT];
+    tag->found = numbers[TAINHOSA_TAG_FOUND] != 0;
+    tag->place = (size_t)numbers[TAINHOSA_TAG_PLACE];
+    tag->type = (uint16_t)numbers[TAINHOSA_TAG_TYPE];
+    tag->length = (uint16_t)numbers[TAINHOSA_TAG_LENGTH];
+    tag->next = (size_t)numbers[TAINHOSA_TAG_NEXT];
+    return answer;
+}
+
+/* tainhosa_check_image */
+TAINHOSA_CALL static inline uint32_t tainhosa_image_check(size_t sectors, size_t size, const uint8_t *partition, size_t partition_length,
+                                                          struct tainhosa_header *header) {
+    uint64_t numbers[TAINHOSA_HEADER_NUMBERS] = {0};
+    uint8_t bytes[TAINHOSA_HEADER_BYTES] = {0};
+    uint32_t answer = tainhosa_check_image(sectors, size, partition, partition_length, numbers, TAINHOSA_HEADER_NUMBERS,
+                                           bytes, TAINHOSA_HEADER_BYTES);
+    tainhosa_header_fill(header, numbers, bytes);
+    return answer;
+}
+
+/* tainhosa_check_firmware */
+TAINHOSA_CALL static inline uint32_t tainhosa_firmware_check(const uint8_t *image, size_t image_length, struct tainhosa_header *header) {
+    uint64_t numbers[TAINHOSA_HEADER_NUMBERS] = {0};
+    uint8_t bytes[TAINHOSA_HEADER_BYTES] = {0};
+    uint32_t answer = tainhosa_check_firmware(image, image_length, numbers, TAINHOSA_HEADER_NUMBERS, bytes, TAINHOSA_HEADER_BYTES);
+    tainhosa_header_fill(header, numbers, bytes);
+    return answer;
+}
+
+/* tainhosa_power_up */
+TAINHOSA_CALL static inline uint32_t tainhosa_flash_power_up(const struct tainhosa_flash *flash, uint64_t budget,
+                                                             struct tainhosa_power_up_answer *answer) {
+    uint64_t numbers[TAINHOSA_POWER_UP_NUMBERS] = {0};
+    uint32_t refused = tainhosa_power_up(flash->sectors, flash->size, flash->boot, flash->boot_length,
+                                         flash->update, flash->update_length, flash->swap, flash->swap_length,
+                                         budget, numbers, TAINHOSA_POWER_UP_NUMBERS);
+    answer->outcome = (uint32_t)numbers[TAINHOSA_POWER_UP_OUTCOME];
+    answer->count = numbers[TAINHOSA_POWER_UP_COUNT];
+    answer->inner = (uint32_t)numbers[TAINHOSA_POWER_UP_INNER];
+    answer->inner_place = numbers[TAINHOSA_POWER_UP_INNER_PLACE];
+    answer->reason = (uint32_t)numbers[TAINHOSA_POWER_UP_REASON];
+    answer->reason_place = numbers[TAINHOSA_POWER_UP_REASON_PLACE];
+    return refused;
+}
+
+/* tainhosa_arm */
+TAINHOSA_CALL static inline uint32_t tainhosa_flash_arm(const struct tainhosa_flash *flash, uint64_t *count) {
+    return tainhosa_arm(flash->sectors, flash->size, flash->boot, flash->boot_length, flash->update, flash->update_length,
+                        flash->swap, flash->swap_length, count, TAINHOSA_COMMAND_NUMBERS);
+}
+
+/* tainhosa_confirm */
+TAINHOSA_CALL static inline uint32_t tainhosa_flash_confirm(const struct tainhosa_flash *flash, uint64_t *count) {
+    return tainhosa_confirm(flash->sectors, flash->size, flash->boot, flash->boot_length, flash->update, flash->update_length,
+                            flash->swap, flash->swap_length, count, TAINHOSA_COMMAND_NUMBERS);
+}
 
 #ifdef __cplusplus
 }

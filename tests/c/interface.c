@@ -1,0 +1,964 @@
+/*
+ * The C interface, used whole: every constant, every call and every struct of include/tainhosa.h. What is expected is written out here
+ * by the rules of document 01 and the examples of FIPS 180-4, and nothing of it was made by the library. tests/c-interface compiles
+ * this file as C99, C11 and C++, and runs it.
+ */
+#define _DEFAULT_SOURCE
+#include <stdio.h>
+#include <string.h>
+#include <sys/mman.h>
+
+#include "tainhosa.h"
+#include "tainhosa.h" /* twice does no harm: TAINHOSA_H */
+
+static int tried, wrong;
+
+static void expect(int line, const char *what, uint64_t is, uint64_t should) {
+    tried++;
+    if (is != should) {
+        wrong++;
+        printf("line %d: %s is %llu, and should be %llu\n", line, what, (unsigned long long)is, (unsigned long long)should);
+    }
+}
+
+#define EQUAL(is, should) expect(__LINE__, #is, (uint64_t)(is), (uint64_t)(should))
+#define SAME(one, other, length) EQUAL(memcmp(one, other, length), 0)
+#define EVERY(bytes, from, to, value) EQUAL(filled(bytes, from, to, value), true)
+
+/* Whether the bytes from one place to another, itself not counted, are all this one. It is watched over as the calls are. */
+TAINHOSA_CALL static bool filled(const uint8_t *bytes, size_t from, size_t to, int value) {
+    size_t i;
+    for (i = from; i < to; i++) {
+        if (bytes[i] != value) {
+            return false;
+        }
+    }
+    return true;
+}
+
+/* What a buffer holds before a call, so that a change is seen. */
+enum { BEFORE = 0x5A };
+
+/* ---- Headers and images by hand: the bytes as document 01 has them */
+
+#define SIGNATURE_DIGITS \
+    "000102030405060708090a0b0c0d0e0f101112131415161718191a1b1c1d1e1f" \
+    "202122232425262728292a2b2c2d2e2f303132333435363738393a3b3c3d3e3f"
+#define HINT_DIGITS "C0C1C2C3C4C5C6C7C8C9CACBCCCDCECFD0D1D2D3D4D5D6D7D8D9DADBDCDDDEDF"
+
+static const struct {
+    const char *message;
+    const char *digest;
+} fips[] = {
+    {"", "e3b0c44298fc1c149afbf4c8996fb92427ae41e4649b934ca495991b7852b855"},
+    {"abc", "ba7816bf8f01cfea414140de5dae2223b00361a396177a9cb410ff61f20015ad"},
+    {"abcdbcdecdefdefgefghfghighijhijkijkljklmklmnlmnomnopnopq", "248d6a61d20638b8e5c026930c3e6039a33ce45964ff2167f6ecedd419db06c1"},
+    {"abcdefghbcdefghicdefghijdefghijkefghijklfghijklmghijklmnhijklmnoijklmnopjklmnopqklmnopqrlmnopqrsmnopqrstnopqrstu",
+     "cf5b16a778af8380036ce59e7b0492370b249b11e8f07a51afac45037afee9d1"},
+};
+enum { EMPTY, SHORT, LONG, LONGER };
+
+static const uint8_t *bytes_of(const char *text) { return (const uint8_t *)text; }
+
+static uint8_t digit(char c) { return (uint8_t)(c <= '9' ? c - '0' : (c | 32) - 'a' + 10); }
+
+static void from_hex(uint8_t *to, const char *digits) {
+    for (; *digits != 0; digits += 2) {
+        *to++ = (uint8_t)(digit(digits[0]) * 16 + digit(digits[1]));
+    }
+}
+
+/* A number of so many bytes, low byte first. */
+static void put(uint8_t *to, size_t count, uint64_t number) {
+    size_t i;
+    for (i = 0; i < count; i++) {
+        to[i] = (uint8_t)(number >> (8 * i));
+    }
+}
+
+static void put_tag(uint8_t *to, unsigned type, unsigned length) {
+    put(to, 2, type);
+    put(to + 2, 2, length);
+}
+
+/* The 256 bytes that the writer leaves: version as given, timestamp 1700000000, auth type 512, firmware an example of FIPS 180-4. */
+static void put_header(uint8_t *to, int firmware, uint32_t version, bool has_hint) {
+    memset(to, 0xFF, 256);
+    memcpy(to, "\x43\x45\x52\x54", 4);
+    put(to + 4, 4, strlen(fips[firmware].message));
+    put_tag(to + 8, 0x0001, 4);
+    put(to + 12, 4, version);
+    put_tag(to + 16, 0x0002, 8);
+    put(to + 20, 8, 1700000000);
+    put_tag(to + 28, 0x0003, 32);
+    from_hex(to + 32, fips[firmware].digest);
+    put_tag(to + 64, 0x0020, 64);
+    from_hex(to + 68, SIGNATURE_DIGITS);
+    put_tag(to + 132, 0x0030, 2);
+    put(to + 136, 2, 512);
+    if (has_hint) {
+        put_tag(to + 138, 0x1000, 32);
+        from_hex(to + 142, HINT_DIGITS);
+        put(to + 174, 2, 0x0000);
+    } else {
+        put(to + 138, 2, 0x0000);
+    }
+}
+
+/* The header, and behind it the firmware: so many bytes of an image. */
+static size_t put_image(uint8_t *to, int firmware, uint32_t version) {
+    size_t length = strlen(fips[firmware].message);
+    put_header(to, firmware, version, false);
+    memcpy(to + 256, fips[firmware].message, length);
+    return 256 + length;
+}
+
+/* ---- Constants that no call below takes or gives */
+
+static void constants(void) {
+    EQUAL(TAINHOSA_VERSION_MAJOR, 0);
+    EQUAL(TAINHOSA_VERSION_MINOR, 2);
+    EQUAL(TAINHOSA_VERSION_PATCH, 0);
+    EQUAL(TAINHOSA_VERSION_NUMBER, 200);
+    EQUAL(TAINHOSA_OK, 0);
+    EQUAL(TAINHOSA_OUTSIDE_RULES, 1);
+    EQUAL(TAINHOSA_WRONG_MAGIC, 2);
+    EQUAL(TAINHOSA_WRONG_SIZE, 3);
+    EQUAL(TAINHOSA_TAG_DOES_NOT_FIT, 4);
+    EQUAL(TAINHOSA_TAG_WRONG_LENGTH, 5);
+    EQUAL(TAINHOSA_TAG_REPEATED, 6);
+    EQUAL(TAINHOSA_NO_END, 7);
+    EQUAL(TAINHOSA_TAG_MISSING, 8);
+    EQUAL(TAINHOSA_WRONG_DIGEST, 9);
+    EQUAL(TAINHOSA_STATUS_NOT_ALLOWED, 10);
+    EQUAL(TAINHOSA_FLAGS_MALFORMED, 11);
+    EQUAL(TAINHOSA_BAD_BOOT, 12);
+    EQUAL(TAINHOSA_NO_FALLBACK, 13);
+    EQUAL(TAINHOSA_WRONG_TIME, 14);
+    EQUAL(TAINHOSA_NOT_NEWER, 15);
+    EQUAL(TAINHOSA_SHORT_HEADER, 16);
+    EQUAL(TAINHOSA_LINE_NOT_UNDERSTOOD, 101);
+    EQUAL(TAINHOSA_NAME_NOT_KNOWN, 102);
+    EQUAL(TAINHOSA_VALUE_NOT_ALLOWED, 103);
+    EQUAL(TAINHOSA_NAME_REPEATED, 104);
+    EQUAL(TAINHOSA_NAME_MISSING, 105);
+    EQUAL(TAINHOSA_HEADER_LENGTH, 256);
+    EQUAL(TAINHOSA_PADDING, 0xFF);
+    EQUAL(TAINHOSA_TYPE_END, 0x0000);
+    EQUAL(TAINHOSA_SECTORS_MIN, 2);
+    EQUAL(TAINHOSA_SECTORS_MAX, 64);
+    EQUAL(TAINHOSA_SIZE_UNIT, 256);
+    EQUAL(TAINHOSA_SIZE_MIN, 256);
+    EQUAL(TAINHOSA_SIZE_MAX, 131072);
+    EQUAL(TAINHOSA_STATUS_NEW, 0xFF);
+    EQUAL(TAINHOSA_STATUS_UPDATING, 0x70);
+    EQUAL(TAINHOSA_STATUS_TESTING, 0x10);
+    EQUAL(TAINHOSA_STATUS_SUCCESS, 0x00);
+    EQUAL(TAINHOSA_REFUSED, 0);
+    EQUAL(TAINHOSA_CUT, 1);
+    EQUAL(TAINHOSA_RUN, 2);
+    EQUAL(TAINHOSA_RUN_ON_TEST, 3);
+    EQUAL(TAINHOSA_RUN_FALLEN_BACK, 4);
+}
+
+/* ---- SHA-256 */
+
+static uint8_t million[1000000];
+
+static void digests(void) {
+    uint8_t should[TAINHOSA_DIGEST_BYTES], digest[TAINHOSA_DIGEST_BYTES + 1];
+    size_t i;
+    for (i = 0; i < sizeof fips / sizeof fips[0]; i++) {
+        memset(digest, BEFORE, sizeof digest);
+        EQUAL(tainhosa_sha256(bytes_of(fips[i].message), strlen(fips[i].message), digest, 32), TAINHOSA_OK);
+        from_hex(should, fips[i].digest);
+        SAME(digest, should, 32);
+        EQUAL(digest[32], BEFORE);
+    }
+    memset(million, 'a', sizeof million);
+    EQUAL(tainhosa_sha256(million, sizeof million, digest, 32), TAINHOSA_OK);
+    from_hex(should, "cdc76e5c9914fb9281a1c7e284d73e67f1809a48a497200e046d39ccc7112cd0");
+    SAME(digest, should, 32);
+    memset(digest, BEFORE, sizeof digest);
+    EQUAL(tainhosa_sha256(bytes_of("abc"), 3, digest, 31), TAINHOSA_OUTSIDE_RULES);
+    EQUAL(tainhosa_sha256(bytes_of("abc"), 3, digest, 33), TAINHOSA_OUTSIDE_RULES);
+    EVERY(digest, 0, sizeof digest, BEFORE);
+}
+
+/* ---- The header */
+
+/* The struct holds what put_header states. */
+static void expect_values(const struct tainhosa_header *header, int firmware, uint32_t version, bool has_hint) {
+    uint8_t digest[32], signature[64], hint[32];
+    from_hex(digest, fips[firmware].digest);
+    from_hex(signature, SIGNATURE_DIGITS);
+    from_hex(hint, HINT_DIGITS);
+    EQUAL(header->place, 0);
+    EQUAL(header->size, strlen(fips[firmware].message));
+    EQUAL(header->version, version);
+    EQUAL(header->timestamp, 1700000000);
+    EQUAL(header->auth_type, 512);
+    EQUAL(header->has_hint, has_hint);
+    SAME(header->digest, digest, 32);
+    SAME(header->signature, signature, 64);
+    if (has_hint) {
+        SAME(header->hint, hint, 32);
+    } else {
+        EVERY(header->hint, 0, 32, 0);
+    }
+}
+
+/* Beside a refusal the struct holds the place, and nothing else. */
+static void expect_blank(const struct tainhosa_header *header, uint64_t place) {
+    EQUAL(header->place, place);
+    EQUAL(header->size, 0);
+    EQUAL(header->version, 0);
+    EQUAL(header->timestamp, 0);
+    EQUAL(header->auth_type, 0);
+    EQUAL(header->has_hint, false);
+    EVERY(header->digest, 0, 32, 0);
+    EVERY(header->signature, 0, 64, 0);
+    EVERY(header->hint, 0, 32, 0);
+}
+
+static void fill_values(struct tainhosa_header *header, int firmware, uint32_t version, bool has_hint) {
+    header->place = BEFORE;
+    header->size = (uint32_t)strlen(fips[firmware].message);
+    header->version = version;
+    header->timestamp = 1700000000;
+    header->auth_type = 512;
+    header->has_hint = has_hint;
+    from_hex(header->digest, fips[firmware].digest);
+    from_hex(header->signature, SIGNATURE_DIGITS);
+    from_hex(header->hint, HINT_DIGITS);
+}
+
+static void writing(void) {
+    uint8_t should[256], out[257], bytes[TAINHOSA_HEADER_BYTES + 1];
+    uint64_t place[TAINHOSA_WRITE_NUMBERS + 1];
+    struct tainhosa_header header;
+    int has_hint;
+    EQUAL(TAINHOSA_HEADER_BYTES, 128);
+    EQUAL(TAINHOSA_WRITE_NUMBERS, 1);
+    memset(bytes, BEFORE, sizeof bytes);
+    from_hex(bytes + TAINHOSA_DIGEST_AT, fips[SHORT].digest);
+    from_hex(bytes + TAINHOSA_SIGNATURE_AT, SIGNATURE_DIGITS);
+    from_hex(bytes + TAINHOSA_HINT_AT, HINT_DIGITS);
+    for (has_hint = 0; has_hint < 2; has_hint++) {
+        put_header(should, SHORT, 7, has_hint != 0);
+        memset(out, BEFORE, sizeof out);
+        place[TAINHOSA_WRITE_PLACE] = BEFORE;
+        EQUAL(tainhosa_write_header(out, 257, 3, 7, 1700000000, 512, has_hint != 0, bytes, 128, place, 1), TAINHOSA_OK);
+        SAME(out, should, 256);
+        EQUAL(out[256], BEFORE);
+        EQUAL(place[TAINHOSA_WRITE_PLACE], 0);
+        memset(out, BEFORE, sizeof out);
+        place[0] = BEFORE;
+        fill_values(&header, SHORT, 7, has_hint != 0);
+        EQUAL(tainhosa_header_write(out, 257, &header, place), TAINHOSA_OK);
+        SAME(out, should, 256);
+        EQUAL(out[256], BEFORE);
+        EQUAL(place[0], 0);
+    }
+    memset(out, BEFORE, sizeof out);
+    place[0] = place[1] = BEFORE;
+    EQUAL(tainhosa_write_header(out, 257, 3, 7, 0, 0, false, bytes, 127, place, 1), TAINHOSA_OUTSIDE_RULES);
+    EQUAL(tainhosa_write_header(out, 257, 3, 7, 0, 0, false, bytes, 129, place, 1), TAINHOSA_OUTSIDE_RULES);
+    EQUAL(tainhosa_write_header(out, 257, 3, 7, 0, 0, false, bytes, 128, place, 0), TAINHOSA_OUTSIDE_RULES);
+    EQUAL(tainhosa_write_header(out, 257, 3, 7, 0, 0, false, bytes, 128, place, 2), TAINHOSA_OUTSIDE_RULES);
+    EQUAL(place[0], BEFORE);
+    EQUAL(place[1], BEFORE);
+    header.size = 0;
+    EQUAL(tainhosa_header_write(out, 255, &header, place), TAINHOSA_SHORT_HEADER);
+    EQUAL(place[0], 0);
+    EQUAL(tainhosa_header_write(out, 256, &header, place), TAINHOSA_WRONG_SIZE);
+    EQUAL(place[0], 4);
+    EVERY(out, 0, sizeof out, BEFORE);
+}
+
+/* A header that is refused, with number and place. */
+#define REFUSED_HEADER(input, length, number, at) \
+    do { \
+        struct tainhosa_header refused_header; \
+        memset(&refused_header, BEFORE, sizeof refused_header); \
+        EQUAL(tainhosa_header_read(input, length, &refused_header), number); \
+        expect_blank(&refused_header, at); \
+    } while (0)
+
+static void reading(void) {
+    static const struct {
+        unsigned type;
+        size_t at;
+    } required[] = {
+        {TAINHOSA_TYPE_VERSION, 8}, {TAINHOSA_TYPE_TIMESTAMP, 16}, {TAINHOSA_TYPE_DIGEST, 28},
+        {TAINHOSA_TYPE_SIGNATURE, 64}, {TAINHOSA_TYPE_AUTH_TYPE, 132},
+    };
+    static const unsigned types[] = {0x0001, 0x0002, 0x0003, 0x0020, 0x0030};
+    uint8_t input[257], bytes[TAINHOSA_HEADER_BYTES + 1], should[128];
+    uint64_t numbers[TAINHOSA_HEADER_NUMBERS + 1];
+    struct tainhosa_header header;
+    size_t i;
+
+    put_header(input, LONG, 0x04030201, true);
+    EQUAL(input[TAINHOSA_MAGIC_AT] | input[1] << 8 | input[2] << 16 | input[3] << 24, TAINHOSA_MAGIC);
+    EQUAL(input[TAINHOSA_FIRMWARE_SIZE_AT], 56);
+    EQUAL(TAINHOSA_HEADER_NUMBERS, 6);
+    memset(numbers, BEFORE, sizeof numbers);
+    memset(bytes, BEFORE, sizeof bytes);
+    EQUAL(tainhosa_read_header(input, 256, numbers, 6, bytes, 128), TAINHOSA_OK);
+    EQUAL(numbers[TAINHOSA_HEADER_PLACE], 0);
+    EQUAL(numbers[TAINHOSA_HEADER_SIZE], 56);
+    EQUAL(numbers[TAINHOSA_HEADER_VERSION], 0x04030201);
+    EQUAL(numbers[TAINHOSA_HEADER_TIMESTAMP], 1700000000);
+    EQUAL(numbers[TAINHOSA_HEADER_AUTH_TYPE], 512);
+    EQUAL(numbers[TAINHOSA_HEADER_HAS_HINT], 1);
+    from_hex(should, fips[LONG].digest);
+    SAME(bytes + TAINHOSA_DIGEST_AT, should, TAINHOSA_DIGEST_BYTES);
+    from_hex(should, SIGNATURE_DIGITS);
+    SAME(bytes + TAINHOSA_SIGNATURE_AT, should, TAINHOSA_SIGNATURE_BYTES);
+    from_hex(should, HINT_DIGITS);
+    SAME(bytes + TAINHOSA_HINT_AT, should, TAINHOSA_HINT_BYTES);
+    EQUAL(bytes[128], BEFORE);
+    memset(numbers, BEFORE, sizeof numbers);
+    memset(bytes, BEFORE, sizeof bytes);
+    EQUAL(tainhosa_read_header(input, 256, numbers, 5, bytes, 128), TAINHOSA_OUTSIDE_RULES);
+    EQUAL(tainhosa_read_header(input, 256, numbers, 7, bytes, 128), TAINHOSA_OUTSIDE_RULES);
+    EQUAL(tainhosa_read_header(input, 0, numbers, 6, bytes, 127), TAINHOSA_OUTSIDE_RULES);
+    EQUAL(tainhosa_read_header(input, 256, numbers, 6, bytes, 129), TAINHOSA_OUTSIDE_RULES);
+    EVERY((const uint8_t *)numbers, 0, sizeof numbers, BEFORE);
+    EVERY(bytes, 0, sizeof bytes, BEFORE);
+
+    EQUAL(tainhosa_header_read(input, 256, &header), TAINHOSA_OK);
+    expect_values(&header, LONG, 0x04030201, true);
+    put_header(input, SHORT, 7, false);
+    input[256] = BEFORE;
+    EQUAL(tainhosa_header_read(input, 257, &header), TAINHOSA_OK);
+    expect_values(&header, SHORT, 7, false);
+
+    REFUSED_HEADER(input, 255, TAINHOSA_SHORT_HEADER, 0);
+    REFUSED_HEADER(input, 0, TAINHOSA_SHORT_HEADER, 0);
+    input[3] ^= 1;
+    REFUSED_HEADER(input, 256, TAINHOSA_WRONG_MAGIC, 0);
+    put_header(input, SHORT, 7, false);
+    put(input + 4, 4, 0);
+    REFUSED_HEADER(input, 256, TAINHOSA_WRONG_SIZE, 4);
+    put_header(input, SHORT, 7, false);
+    put(input + 134, 2, 121);
+    REFUSED_HEADER(input, 256, TAINHOSA_TAG_DOES_NOT_FIT, 132);
+    put_header(input, SHORT, 7, false);
+    put_tag(input + 138, 0x0001, 3);
+    REFUSED_HEADER(input, 256, TAINHOSA_TAG_WRONG_LENGTH, 138);
+    put_tag(input + 138, 0x0001, 4);
+    REFUSED_HEADER(input, 256, TAINHOSA_TAG_REPEATED, 138);
+    put_header(input, SHORT, 7, false);
+    memset(input + 138, TAINHOSA_PADDING, 2);
+    REFUSED_HEADER(input, 256, TAINHOSA_NO_END, 256);
+    memset(input + TAINHOSA_FIRST_TAG, 0xFF, 248);
+    REFUSED_HEADER(input, 256, TAINHOSA_NO_END, 256);
+    input[255] = 0x01;
+    REFUSED_HEADER(input, 256, TAINHOSA_TAG_DOES_NOT_FIT, 255);
+    for (i = 0; i < 5; i++) {
+        EQUAL(required[i].type, types[i]);
+        put_header(input, SHORT, 7, false);
+        put(input + required[i].at, 2, 0x0042);
+        REFUSED_HEADER(input, 256, TAINHOSA_TAG_MISSING, types[i]);
+    }
+}
+
+static void walking(void) {
+    static const struct tainhosa_tag should[] = {
+        {0, true, 8, TAINHOSA_TYPE_VERSION, TAINHOSA_VERSION_BYTES, 16},
+        {0, true, 16, TAINHOSA_TYPE_TIMESTAMP, TAINHOSA_TIMESTAMP_BYTES, 28},
+        {0, true, 28, TAINHOSA_TYPE_DIGEST, 32, 64},
+        {0, true, 64, TAINHOSA_TYPE_SIGNATURE, 64, 132},
+        {0, true, 132, TAINHOSA_TYPE_AUTH_TYPE, TAINHOSA_AUTH_TYPE_BYTES, 138},
+        {0, true, 138, TAINHOSA_TYPE_HINT, 32, 174},
+    };
+    uint8_t input[256];
+    uint64_t row[TAINHOSA_TAG_NUMBERS + 1];
+    struct tainhosa_tag tag;
+    size_t at = TAINHOSA_FIRST_TAG, i;
+
+    EQUAL(TAINHOSA_TYPE_HINT, 0x1000);
+    EQUAL(TAINHOSA_VERSION_BYTES, 4);
+    EQUAL(TAINHOSA_TIMESTAMP_BYTES, 8);
+    EQUAL(TAINHOSA_AUTH_TYPE_BYTES, 2);
+    EQUAL(TAINHOSA_TAG_NUMBERS, 6);
+    put_header(input, LONGER, 8, true);
+    for (i = 0; i < 6; i++, at = tag.next) {
+        EQUAL(tainhosa_tag_next(input, 256, at, &tag), TAINHOSA_OK);
+        EQUAL(tag.refused_at, 0);
+        EQUAL(tag.found, true);
+        EQUAL(tag.place, should[i].place);
+        EQUAL(tag.type, should[i].type);
+        EQUAL(tag.length, should[i].length);
+        EQUAL(tag.next, should[i].next);
+    }
+    for (i = 0; i < 2; i++) {
+        EQUAL(tainhosa_tag_next(input, 256, 174, &tag), TAINHOSA_OK);
+        EQUAL(tag.found, false);
+        EQUAL(tag.place, 0);
+        EQUAL(tag.next, 174);
+    }
+    memset(row, BEFORE, sizeof row);
+    EQUAL(tainhosa_next_tag(input, 256, 8, row, 5), TAINHOSA_OUTSIDE_RULES);
+    EQUAL(tainhosa_next_tag(input, 256, 8, row, 7), TAINHOSA_OUTSIDE_RULES);
+    EVERY((const uint8_t *)row, 0, sizeof row, BEFORE);
+    memset(input + 8, 0xFF, 248);
+    put_tag(input + 250, 0x0042, 2);
+    EQUAL(tainhosa_next_tag(input, 256, 8, row, 6), TAINHOSA_OK);
+    EQUAL(row[TAINHOSA_TAG_REFUSED_AT], 0);
+    EQUAL(row[TAINHOSA_TAG_FOUND], 1);
+    EQUAL(row[TAINHOSA_TAG_PLACE], 250);
+    EQUAL(row[TAINHOSA_TAG_TYPE], 0x42);
+    EQUAL(row[TAINHOSA_TAG_LENGTH], 2);
+    EQUAL(row[TAINHOSA_TAG_NEXT], 256);
+    EQUAL(row[6], 0x5A5A5A5A5A5A5A5A);
+    EQUAL(tainhosa_tag_next(input, 256, 256, &tag), TAINHOSA_NO_END);
+    EQUAL(tag.refused_at, 256);
+    EQUAL(tag.found, false);
+    EQUAL(tag.next, 256);
+    EQUAL(tainhosa_tag_next(input, 255, 8, &tag), TAINHOSA_SHORT_HEADER);
+    EQUAL(tag.refused_at, 0);
+    EQUAL(tag.next, 8);
+    put(input + 252, 2, 3);
+    EQUAL(tainhosa_tag_next(input, 256, 9, &tag), TAINHOSA_TAG_DOES_NOT_FIT);
+    EQUAL(tag.refused_at, 250);
+    EQUAL(tag.found, false);
+    EQUAL(tag.next, 9);
+}
+
+/* ---- The release sheet */
+
+#define VERSION_LINE "version 7\n"
+#define TIMESTAMP_LINE "timestamp 1700000000\n"
+#define AUTH_LINE "auth 512\n"
+#define SIGNATURE_LINE "signature " SIGNATURE_DIGITS "\n"
+#define HINT_LINE "hint " HINT_DIGITS "\n"
+
+static void expect_sheet(int line, const char *text, bool has_hint) {
+    uint8_t signature[64], hint[32];
+    struct tainhosa_sheet sheet;
+    from_hex(signature, SIGNATURE_DIGITS);
+    from_hex(hint, HINT_DIGITS);
+    memset(&sheet, BEFORE, sizeof sheet);
+    expect(line, "tainhosa_sheet_read", tainhosa_sheet_read(bytes_of(text), strlen(text), &sheet), TAINHOSA_OK);
+    expect(line, "line", sheet.line, 0);
+    expect(line, "version", sheet.version, 7);
+    expect(line, "timestamp", sheet.timestamp, 1700000000);
+    expect(line, "auth_type", sheet.auth_type, 512);
+    expect(line, "has_hint", sheet.has_hint, has_hint);
+    expect(line, "signature", memcmp(sheet.signature, signature, 64) == 0, true);
+    expect(line, "hint", has_hint ? memcmp(sheet.hint, hint, 32) == 0 : filled(sheet.hint, 0, 32, 0), true);
+}
+
+static void expect_no_sheet(int line, const char *text, uint32_t number, uint64_t refused_line) {
+    struct tainhosa_sheet sheet;
+    memset(&sheet, BEFORE, sizeof sheet);
+    expect(line, "tainhosa_sheet_read", tainhosa_sheet_read(bytes_of(text), strlen(text), &sheet), number);
+    expect(line, "line", sheet.line, refused_line);
+    expect(line, "version", sheet.version, 0);
+    expect(line, "timestamp", sheet.timestamp, 0);
+    expect(line, "auth_type", sheet.auth_type, 0);
+    expect(line, "has_hint", sheet.has_hint, false);
+    expect(line, "signature", filled(sheet.signature, 0, 64, 0), true);
+    expect(line, "hint", filled(sheet.hint, 0, 32, 0), true);
+}
+
+#define SHEET(text, has_hint) expect_sheet(__LINE__, text, has_hint)
+#define NO_SHEET(text, number, line) expect_no_sheet(__LINE__, text, number, line)
+
+static void sheets(void) {
+    static const char largest[] =
+        "version 4294967295\ntimestamp 18446744073709551615\nauth 65535\n" SIGNATURE_LINE "hint " HINT_DIGITS;
+    static const char sixty_three[] = "C0C1C2C3C4C5C6C7C8C9CACBCCCDCECFD0D1D2D3D4D5D6D7D8D9DADBDCDDDED";
+    uint8_t bytes[TAINHOSA_SHEET_BYTES + 1], should[64];
+    uint64_t numbers[TAINHOSA_SHEET_NUMBERS + 1];
+    char text[512];
+
+    SHEET(VERSION_LINE TIMESTAMP_LINE AUTH_LINE SIGNATURE_LINE HINT_LINE, true);
+    SHEET(VERSION_LINE TIMESTAMP_LINE AUTH_LINE SIGNATURE_LINE "hint no", false);
+    SHEET("\n# release\n\n" HINT_LINE SIGNATURE_LINE "#\n" AUTH_LINE TIMESTAMP_LINE "version 000000000000000000000000007\n\n\n#", true);
+
+    EQUAL(TAINHOSA_SHEET_NUMBERS, 5);
+    EQUAL(TAINHOSA_SHEET_BYTES, 96);
+    memset(numbers, BEFORE, sizeof numbers);
+    memset(bytes, BEFORE, sizeof bytes);
+    EQUAL(tainhosa_read_sheet(bytes_of(largest), strlen(largest), numbers, 5, bytes, 96), TAINHOSA_OK);
+    EQUAL(numbers[TAINHOSA_SHEET_LINE], 0);
+    EQUAL(numbers[TAINHOSA_SHEET_VERSION], 0xFFFFFFFF);
+    EQUAL(numbers[TAINHOSA_SHEET_TIMESTAMP], UINT64_MAX);
+    EQUAL(numbers[TAINHOSA_SHEET_AUTH_TYPE], 0xFFFF);
+    EQUAL(numbers[TAINHOSA_SHEET_HAS_HINT], 1);
+    EQUAL(numbers[5], 0x5A5A5A5A5A5A5A5A);
+    from_hex(should, SIGNATURE_DIGITS);
+    SAME(bytes + TAINHOSA_SHEET_SIGNATURE_AT, should, 64);
+    from_hex(should, HINT_DIGITS);
+    SAME(bytes + TAINHOSA_SHEET_HINT_AT, should, 32);
+    EQUAL(bytes[96], BEFORE);
+    memset(numbers, BEFORE, sizeof numbers);
+    memset(bytes, BEFORE, sizeof bytes);
+    EQUAL(tainhosa_read_sheet(bytes_of(largest), strlen(largest), numbers, 4, bytes, 96), TAINHOSA_OUTSIDE_RULES);
+    EQUAL(tainhosa_read_sheet(bytes_of(largest), strlen(largest), numbers, 6, bytes, 96), TAINHOSA_OUTSIDE_RULES);
+    EQUAL(tainhosa_read_sheet(bytes_of(""), 0, numbers, 5, bytes, 95), TAINHOSA_OUTSIDE_RULES);
+    EQUAL(tainhosa_read_sheet(bytes_of(largest), strlen(largest), numbers, 5, bytes, 97), TAINHOSA_OUTSIDE_RULES);
+    EVERY((const uint8_t *)numbers, 0, sizeof numbers, BEFORE);
+    EVERY(bytes, 0, sizeof bytes, BEFORE);
+
+    NO_SHEET("version", TAINHOSA_LINE_NOT_UNDERSTOOD, 1);
+    NO_SHEET("\n# a comment\nversion=7\n", TAINHOSA_LINE_NOT_UNDERSTOOD, 3);
+    NO_SHEET("auth 512\nversion\nversion x\n", TAINHOSA_LINE_NOT_UNDERSTOOD, 2);
+    NO_SHEET("Version 7\n", TAINHOSA_NAME_NOT_KNOWN, 1);
+    NO_SHEET("\n version 7\n", TAINHOSA_NAME_NOT_KNOWN, 2);
+    NO_SHEET("version 7\nversions 7\nversion 7\n", TAINHOSA_NAME_NOT_KNOWN, 2);
+    NO_SHEET(" ", TAINHOSA_NAME_NOT_KNOWN, 1);
+    NO_SHEET("version ", TAINHOSA_VALUE_NOT_ALLOWED, 1);
+    NO_SHEET("version  7", TAINHOSA_VALUE_NOT_ALLOWED, 1);
+    NO_SHEET("version 7 \n", TAINHOSA_VALUE_NOT_ALLOWED, 1);
+    NO_SHEET("version 7\r\n", TAINHOSA_VALUE_NOT_ALLOWED, 1);
+    NO_SHEET("version +7\n", TAINHOSA_VALUE_NOT_ALLOWED, 1);
+    NO_SHEET("version 0x7\n", TAINHOSA_VALUE_NOT_ALLOWED, 1);
+    NO_SHEET("version 4294967296\n", TAINHOSA_VALUE_NOT_ALLOWED, 1);
+    NO_SHEET("timestamp 18446744073709551616\n", TAINHOSA_VALUE_NOT_ALLOWED, 1);
+    NO_SHEET("timestamp 99999999999999999999999999\n", TAINHOSA_VALUE_NOT_ALLOWED, 1);
+    NO_SHEET("auth 65536\n", TAINHOSA_VALUE_NOT_ALLOWED, 1);
+    NO_SHEET("signature " SIGNATURE_DIGITS "0\n", TAINHOSA_VALUE_NOT_ALLOWED, 1);
+    NO_SHEET("signature " HINT_DIGITS "\n", TAINHOSA_VALUE_NOT_ALLOWED, 1);
+    NO_SHEET("signature no\n", TAINHOSA_VALUE_NOT_ALLOWED, 1);
+    NO_SHEET("hint yes\n", TAINHOSA_VALUE_NOT_ALLOWED, 1);
+    NO_SHEET("hint No\n", TAINHOSA_VALUE_NOT_ALLOWED, 1);
+    snprintf(text, sizeof text, "hint %s\n", sixty_three);
+    NO_SHEET(text, TAINHOSA_VALUE_NOT_ALLOWED, 1);
+    snprintf(text, sizeof text, "version 1\nhint %sg\n", sixty_three);
+    NO_SHEET(text, TAINHOSA_VALUE_NOT_ALLOWED, 2);
+    NO_SHEET("version 7\nversion 7\n", TAINHOSA_NAME_REPEATED, 2);
+    NO_SHEET("hint no\n\nhint no", TAINHOSA_NAME_REPEATED, 3);
+    NO_SHEET("version 7\nversion seven\n", TAINHOSA_VALUE_NOT_ALLOWED, 2);
+    NO_SHEET("", TAINHOSA_NAME_MISSING, TAINHOSA_TYPE_VERSION);
+    NO_SHEET("# nothing\n", TAINHOSA_NAME_MISSING, 0x0001);
+    NO_SHEET(VERSION_LINE SIGNATURE_LINE, TAINHOSA_NAME_MISSING, 0x0002);
+    NO_SHEET(VERSION_LINE TIMESTAMP_LINE AUTH_LINE HINT_LINE, TAINHOSA_NAME_MISSING, 0x0020);
+    NO_SHEET(VERSION_LINE TIMESTAMP_LINE SIGNATURE_LINE, TAINHOSA_NAME_MISSING, 0x0030);
+    NO_SHEET(VERSION_LINE TIMESTAMP_LINE AUTH_LINE SIGNATURE_LINE, TAINHOSA_NAME_MISSING, 0x1000);
+}
+
+static void making(void) {
+    static const char text[] = VERSION_LINE TIMESTAMP_LINE AUTH_LINE SIGNATURE_LINE HINT_LINE;
+    const uint8_t *firmware = bytes_of(fips[LONGER].message);
+    const size_t length = 112, too_long = (size_t)1 << 32;
+    uint8_t out[257], should[256], bytes[TAINHOSA_SHEET_BYTES + 1];
+    uint64_t place[TAINHOSA_WRITE_NUMBERS + 1];
+    struct tainhosa_sheet sheet;
+    void *huge;
+    size_t more;
+
+    put_header(should, LONGER, 7, true);
+    EQUAL(tainhosa_sheet_read(bytes_of(text), strlen(text), &sheet), TAINHOSA_OK);
+    memset(out, BEFORE, sizeof out);
+    place[0] = BEFORE;
+    EQUAL(tainhosa_header_make(out, 257, firmware, length, &sheet, place), TAINHOSA_OK);
+    SAME(out, should, 256);
+    EQUAL(out[256], BEFORE);
+    EQUAL(place[0], 0);
+    memset(bytes, BEFORE, sizeof bytes);
+    from_hex(bytes + TAINHOSA_SHEET_SIGNATURE_AT, SIGNATURE_DIGITS);
+    memset(out, BEFORE, sizeof out);
+    place[TAINHOSA_WRITE_PLACE] = BEFORE;
+    put_header(should, LONGER, 7, false);
+    EQUAL(tainhosa_make_header(out, 256, firmware, length, 7, 1700000000, 512, false, bytes, 96, place, 1), TAINHOSA_OK);
+    SAME(out, should, 256);
+    EQUAL(out[256], BEFORE);
+    EQUAL(place[TAINHOSA_WRITE_PLACE], 0);
+
+    memset(out, BEFORE, sizeof out);
+    place[0] = place[1] = BEFORE;
+    EQUAL(tainhosa_make_header(out, 0, firmware, length, 7, 0, 0, false, bytes, 95, place, 1), TAINHOSA_OUTSIDE_RULES);
+    EQUAL(tainhosa_make_header(out, 256, firmware, length, 7, 0, 0, false, bytes, 97, place, 1), TAINHOSA_OUTSIDE_RULES);
+    EQUAL(tainhosa_make_header(out, 256, firmware, length, 7, 0, 0, false, bytes, 96, place, 0), TAINHOSA_OUTSIDE_RULES);
+    EQUAL(tainhosa_make_header(out, 256, firmware, length, 7, 0, 0, false, bytes, 96, place, 2), TAINHOSA_OUTSIDE_RULES);
+    EQUAL(place[0], BEFORE);
+    EQUAL(place[1], BEFORE);
+    EQUAL(tainhosa_header_make(out, 255, firmware, 0, &sheet, place), TAINHOSA_SHORT_HEADER);
+    EQUAL(place[0], 0);
+    EQUAL(tainhosa_header_make(out, 256, firmware, 0, &sheet, place), TAINHOSA_WRONG_SIZE);
+    EQUAL(place[0], 4);
+    /* 2^32 bytes, and three more, whose number's low half is a size. Pages that nobody touches take no memory. */
+    huge = mmap(NULL, too_long + 3, PROT_READ, MAP_PRIVATE | MAP_ANONYMOUS | MAP_NORESERVE, -1, 0);
+    if (huge != MAP_FAILED) {
+        for (more = 0; more <= 3; more += 3) {
+            place[0] = BEFORE;
+            EQUAL(tainhosa_header_make(out, 256, (const uint8_t *)huge, too_long + more, &sheet, place), TAINHOSA_WRONG_SIZE);
+            EQUAL(place[0], 4);
+        }
+        munmap(huge, too_long + 3);
+    } else {
+        printf("a firmware of 4 GiB was not tried: no room for it\n");
+    }
+    EVERY(out, 0, sizeof out, BEFORE);
+}
+
+/* ---- Images */
+
+enum { TOO_LARGE = 131328 };
+
+static uint8_t large[2 * TOO_LARGE];
+
+/* An image that is refused, with number and place. */
+#define REFUSED_IMAGE(sectors, size, partition, length, number, at) \
+    do { \
+        struct tainhosa_header refused_image; \
+        memset(&refused_image, BEFORE, sizeof refused_image); \
+        EQUAL(tainhosa_image_check(sectors, size, partition, length, &refused_image), number); \
+        expect_blank(&refused_image, at); \
+    } while (0)
+
+#define REFUSED_FIRMWARE(image, length, number, at) \
+    do { \
+        struct tainhosa_header refused_firmware; \
+        memset(&refused_firmware, BEFORE, sizeof refused_firmware); \
+        EQUAL(tainhosa_firmware_check(image, length, &refused_firmware), number); \
+        expect_blank(&refused_firmware, at); \
+    } while (0)
+
+static void images(void) {
+    uint8_t bytes[TAINHOSA_HEADER_BYTES], digest[32];
+    uint64_t numbers[TAINHOSA_HEADER_NUMBERS];
+    struct tainhosa_header header;
+    size_t length;
+
+    memset(large, 0xFF, sizeof large);
+    length = put_image(large, SHORT, 7);
+    EQUAL(length, 259);
+    EQUAL(tainhosa_image_check(3, 256, large, 768, &header), TAINHOSA_OK);
+    expect_values(&header, SHORT, 7, false);
+    EQUAL(tainhosa_check_image(TAINHOSA_SECTORS_MAX, TAINHOSA_SIZE_MIN, large, 64 * 256, numbers, 6, bytes, 128), TAINHOSA_OK);
+    EQUAL(numbers[TAINHOSA_HEADER_VERSION], 7);
+    from_hex(digest, fips[SHORT].digest);
+    SAME(bytes + TAINHOSA_DIGEST_AT, digest, 32);
+    EQUAL(tainhosa_image_check(TAINHOSA_SECTORS_MIN, TAINHOSA_SIZE_MAX, large, 2 * 131072, &header), TAINHOSA_OK);
+    EQUAL(tainhosa_image_check(2, TAINHOSA_SIZE_MIN + TAINHOSA_SIZE_UNIT, large, 1024, &header), TAINHOSA_OK);
+    REFUSED_IMAGE(1, 256, large, 256, TAINHOSA_OUTSIDE_RULES, 0);
+    REFUSED_IMAGE(65, 256, large, 65 * 256, TAINHOSA_OUTSIDE_RULES, 0);
+    REFUSED_IMAGE(2, 384, large, 768, TAINHOSA_OUTSIDE_RULES, 0);
+    REFUSED_IMAGE(2, TOO_LARGE, large, 2 * TOO_LARGE, TAINHOSA_OUTSIDE_RULES, 0);
+    REFUSED_IMAGE(3, 256, large, 767, TAINHOSA_OUTSIDE_RULES, 0);
+    REFUSED_IMAGE(3, 256, large, 769, TAINHOSA_OUTSIDE_RULES, 0);
+    REFUSED_IMAGE(2, 256, large, 512, TAINHOSA_WRONG_SIZE, 4);
+
+    EQUAL(tainhosa_firmware_check(large, 259, &header), TAINHOSA_OK);
+    expect_values(&header, SHORT, 7, false);
+    EQUAL(tainhosa_firmware_check(large, 1001, &header), TAINHOSA_OK);
+    EQUAL(tainhosa_check_firmware(large, 259, numbers, 6, bytes, 128), TAINHOSA_OK);
+    EQUAL(numbers[TAINHOSA_HEADER_SIZE], 3);
+    SAME(bytes + TAINHOSA_DIGEST_AT, digest, 32);
+    REFUSED_FIRMWARE(large, 258, TAINHOSA_WRONG_SIZE, 4);
+    REFUSED_FIRMWARE(large, 256, TAINHOSA_WRONG_SIZE, 4);
+    REFUSED_FIRMWARE(large, 255, TAINHOSA_SHORT_HEADER, 0);
+    large[258] ^= 0x80;
+    REFUSED_IMAGE(3, 256, large, 768, TAINHOSA_WRONG_DIGEST, 256);
+    REFUSED_FIRMWARE(large, 259, TAINHOSA_WRONG_DIGEST, 256);
+    large[0] ^= 1;
+    REFUSED_IMAGE(3, 256, large, 768, TAINHOSA_WRONG_MAGIC, 0);
+    REFUSED_FIRMWARE(large, 259, TAINHOSA_WRONG_MAGIC, 0);
+    memset(numbers, BEFORE, sizeof numbers);
+    memset(bytes, BEFORE, sizeof bytes);
+    EQUAL(tainhosa_check_image(3, 256, large, 768, numbers, 5, bytes, 128), TAINHOSA_OUTSIDE_RULES);
+    EQUAL(tainhosa_check_image(3, 256, large, 768, numbers, 6, bytes, 127), TAINHOSA_OUTSIDE_RULES);
+    EQUAL(tainhosa_check_firmware(large, 259, numbers, 5, bytes, 128), TAINHOSA_OUTSIDE_RULES);
+    EQUAL(tainhosa_check_firmware(large, 259, numbers, 6, bytes, 127), TAINHOSA_OUTSIDE_RULES);
+    EVERY((const uint8_t *)numbers, 0, sizeof numbers, BEFORE);
+    EVERY(bytes, 0, sizeof bytes, BEFORE);
+}
+
+/* ---- Power-up, arm and confirm, on document 01's three sectors of 256: flag byte 766, status 767 */
+
+enum { FIRMWARE_SECTORS = 512, FLAGS = 766, STATUS = 767 };
+
+static uint8_t boot[768], update[768], swap[256], old_boot[768], old_update[768];
+static struct tainhosa_flash flash = {3, 256, boot, sizeof boot, update, sizeof update, swap, sizeof swap};
+
+static unsigned flag(unsigned sector) { return update[FLAGS - sector / 2] >> (sector % 2 * 4) & 0xFu; }
+
+/* Two good images, versions as given; BOOT is SUCCESS, UPDATE is NEW. */
+static void two_images(uint32_t boot_version, uint32_t update_version) {
+    memset(boot, 0xFF, sizeof boot);
+    memset(update, 0xFF, sizeof update);
+    memset(swap, BEFORE, sizeof swap);
+    put_image(boot, SHORT, boot_version);
+    put_image(update, LONGER, update_version);
+    boot[STATUS] = 0x00;
+}
+
+static void remember(void) {
+    memcpy(old_boot, boot, sizeof boot);
+    memcpy(old_update, update, sizeof update);
+}
+
+static void expect_unchanged(void) {
+    SAME(boot, old_boot, sizeof boot);
+    SAME(update, old_update, sizeof update);
+}
+
+/* The update is good and armed. */
+static void armed(uint32_t boot_version, uint32_t update_version) {
+    uint64_t count = BEFORE;
+    two_images(boot_version, update_version);
+    update[FLAGS] = 0x00;
+    remember();
+    EQUAL(tainhosa_flash_arm(&flash, &count), TAINHOSA_OK);
+    EQUAL(count, 2);
+    SAME(boot, old_boot, sizeof boot);
+    SAME(update, old_update, FIRMWARE_SECTORS);
+    EVERY(update, FIRMWARE_SECTORS, STATUS, 0xFF);
+    EQUAL(update[STATUS], TAINHOSA_STATUS_UPDATING);
+}
+
+/* A power-up that answers OK, with its outcome, count and reason. */
+static void power_up(int line, uint64_t budget, uint32_t outcome, uint64_t count, uint32_t reason, uint64_t reason_place) {
+    struct tainhosa_power_up_answer answer;
+    memset(&answer, BEFORE, sizeof answer);
+    expect(line, "tainhosa_flash_power_up", tainhosa_flash_power_up(&flash, budget, &answer), TAINHOSA_OK);
+    expect(line, "outcome", answer.outcome, outcome);
+    expect(line, "count", answer.count, count);
+    expect(line, "inner", answer.inner, 0);
+    expect(line, "inner_place", answer.inner_place, 0);
+    expect(line, "reason", answer.reason, reason);
+    expect(line, "reason_place", answer.reason_place, reason_place);
+}
+
+#define POWER_UP(budget, outcome, count) power_up(__LINE__, budget, outcome, count, 0, 0)
+#define TURNED_DOWN(budget, outcome, count, reason, at) power_up(__LINE__, budget, outcome, count, reason, at)
+
+/* A power-up that is refused before its first operation, with the bad image's own number and place. */
+static void no_power_up(int line, uint32_t number, uint32_t inner, uint64_t inner_place) {
+    struct tainhosa_power_up_answer answer;
+    memset(&answer, BEFORE, sizeof answer);
+    remember();
+    expect(line, "tainhosa_flash_power_up", tainhosa_flash_power_up(&flash, UINT64_MAX, &answer), number);
+    expect(line, "outcome", answer.outcome, TAINHOSA_REFUSED);
+    expect(line, "count", answer.count, 0);
+    expect(line, "inner", answer.inner, inner);
+    expect(line, "inner_place", answer.inner_place, inner_place);
+    expect(line, "reason", answer.reason, 0);
+    expect(line, "reason_place", answer.reason_place, 0);
+    expect_unchanged();
+}
+
+#define NO_POWER_UP(number, inner, at) no_power_up(__LINE__, number, inner, at)
+
+/* An arm or a confirm that is refused. */
+#define NO_COMMAND(call, number) \
+    do { \
+        uint64_t refused_count = BEFORE; \
+        remember(); \
+        EQUAL(call(&flash, &refused_count), number); \
+        EQUAL(refused_count, 0); \
+        expect_unchanged(); \
+    } while (0)
+
+static void an_update(void) {
+    static const uint8_t flags[] = {0xF7, 0xF3, 0xF0, 0x70, 0x30, 0x00};
+    unsigned i;
+    for (i = 0; i < 6; i++) {
+        armed(1, 2);
+        POWER_UP(3 * (i + 1), TAINHOSA_CUT, 3 * (i + 1));
+        EQUAL(update[FLAGS], flags[i]);
+        EQUAL(boot[STATUS], TAINHOSA_STATUS_SUCCESS);
+        EQUAL(update[STATUS], TAINHOSA_STATUS_UPDATING);
+    }
+    armed(1, 2);
+    EQUAL(flag(0), TAINHOSA_FLAG_UNTOUCHED);
+    POWER_UP(3, TAINHOSA_CUT, 3);
+    EQUAL(flag(0), TAINHOSA_FLAG_SAVED);
+    SAME(swap, old_update, 256);
+    POWER_UP(3, TAINHOSA_CUT, 3);
+    EQUAL(flag(0), TAINHOSA_FLAG_MOVED);
+    SAME(update, old_boot, 256);
+    POWER_UP(3, TAINHOSA_CUT, 3);
+    EQUAL(flag(0), TAINHOSA_FLAG_EXCHANGED);
+    EQUAL(flag(1), TAINHOSA_FLAG_UNTOUCHED);
+    SAME(boot, old_update, 256);
+
+    armed(1, 2);
+    POWER_UP(20, TAINHOSA_CUT, 20);
+    EQUAL(boot[STATUS], TAINHOSA_STATUS_TESTING);
+    EQUAL(update[STATUS], TAINHOSA_STATUS_UPDATING);
+    armed(1, 2);
+    POWER_UP(5, TAINHOSA_CUT, 5);
+    POWER_UP(100, TAINHOSA_RUN_ON_TEST, 18);
+    armed(1, 2);
+    for (i = 0; i < 3; i++) {
+        POWER_UP(2, TAINHOSA_CUT, 2);
+        EQUAL(update[FLAGS], 0xFF);
+    }
+    armed(1, 2);
+    POWER_UP(21, TAINHOSA_RUN_ON_TEST, 21);
+    SAME(boot, old_update, FIRMWARE_SECTORS);
+    SAME(update, old_boot, FIRMWARE_SECTORS);
+    EVERY(boot, FIRMWARE_SECTORS, STATUS, 0xFF);
+    EQUAL(boot[STATUS], TAINHOSA_STATUS_TESTING);
+    EVERY(update, FIRMWARE_SECTORS, sizeof update, 0xFF);
+}
+
+static void after_an_update(void) {
+    uint64_t count = BEFORE;
+    armed(1, 2);
+    POWER_UP(UINT64_MAX, TAINHOSA_RUN_ON_TEST, 21);
+    NO_COMMAND(tainhosa_flash_arm, TAINHOSA_WRONG_TIME);
+    remember();
+    EQUAL(tainhosa_flash_confirm(&flash, &count), TAINHOSA_OK);
+    EQUAL(count, 1);
+    EQUAL(boot[STATUS], TAINHOSA_STATUS_SUCCESS);
+    SAME(boot, old_boot, STATUS);
+    SAME(update, old_update, sizeof update);
+    POWER_UP(0, TAINHOSA_RUN, 0);
+    NO_COMMAND(tainhosa_flash_confirm, TAINHOSA_WRONG_TIME);
+
+    armed(1, 2);
+    POWER_UP(UINT64_MAX, TAINHOSA_RUN_ON_TEST, 21);
+    POWER_UP(3, TAINHOSA_CUT, 3);
+    EQUAL(update[FLAGS], 0xF7);
+    NO_COMMAND(tainhosa_flash_confirm, TAINHOSA_WRONG_TIME);
+    update[FLAGS] = 0x7F;
+    NO_COMMAND(tainhosa_flash_confirm, TAINHOSA_FLAGS_MALFORMED);
+    armed(1, 2);
+    POWER_UP(UINT64_MAX, TAINHOSA_RUN_ON_TEST, 21);
+    POWER_UP(19, TAINHOSA_RUN_FALLEN_BACK, 19);
+    SAME(boot, old_boot, FIRMWARE_SECTORS);
+    SAME(update, old_update, FIRMWARE_SECTORS);
+    EQUAL(boot[STATUS], TAINHOSA_STATUS_SUCCESS);
+    EQUAL(update[STATUS], TAINHOSA_STATUS_NEW);
+    EQUAL(update[FLAGS], 0x00);
+}
+
+static void turning_down(void) {
+    struct tainhosa_power_up_answer answer;
+    armed(7, 7);
+    TURNED_DOWN(0, TAINHOSA_CUT, 0, TAINHOSA_NOT_NEWER, 0);
+    TURNED_DOWN(UINT64_MAX, TAINHOSA_RUN, 1, TAINHOSA_NOT_NEWER, 0);
+    SAME(boot, old_boot, sizeof boot);
+    SAME(update, old_update, FIRMWARE_SECTORS);
+    EVERY(update, FIRMWARE_SECTORS, sizeof update, 0xFF);
+    armed(7, 8);
+    POWER_UP(UINT64_MAX, TAINHOSA_RUN_ON_TEST, 21);
+    armed(1, 2);
+    update[256] ^= 1;
+    TURNED_DOWN(UINT64_MAX, TAINHOSA_RUN, 1, TAINHOSA_WRONG_DIGEST, 256);
+    armed(1, 2);
+    put(update + 16, 2, 0x0001);
+    TURNED_DOWN(UINT64_MAX, TAINHOSA_RUN, 1, TAINHOSA_TAG_WRONG_LENGTH, 16);
+
+    /* Both images are bad: 12 comes after the operation that turned the update down. */
+    armed(1, 2);
+    update[3] = 0;
+    boot[256] ^= 1;
+    EQUAL(tainhosa_flash_power_up(&flash, UINT64_MAX, &answer), TAINHOSA_BAD_BOOT);
+    EQUAL(answer.outcome, TAINHOSA_REFUSED);
+    EQUAL(answer.count, 1);
+    EQUAL(answer.inner, TAINHOSA_WRONG_DIGEST);
+    EQUAL(answer.inner_place, 256);
+    EQUAL(answer.reason, TAINHOSA_WRONG_MAGIC);
+    EQUAL(answer.reason_place, 0);
+    EQUAL(update[STATUS], TAINHOSA_STATUS_NEW);
+}
+
+static void refusals(void) {
+    struct tainhosa_flash good = flash;
+    two_images(1, 2);
+    POWER_UP(0, TAINHOSA_RUN, 0);
+    boot[STATUS] = 0x70;
+    NO_POWER_UP(TAINHOSA_STATUS_NOT_ALLOWED, 0, 0);
+    NO_COMMAND(tainhosa_flash_arm, TAINHOSA_STATUS_NOT_ALLOWED);
+    NO_COMMAND(tainhosa_flash_confirm, TAINHOSA_STATUS_NOT_ALLOWED);
+    two_images(1, 2);
+    update[STATUS] = 0x10;
+    NO_POWER_UP(TAINHOSA_STATUS_NOT_ALLOWED, 0, 0);
+    armed(1, 2);
+    NO_COMMAND(tainhosa_flash_arm, TAINHOSA_WRONG_TIME);
+    update[FLAGS] = 0x7F;
+    NO_POWER_UP(TAINHOSA_FLAGS_MALFORMED, 0, 0);
+    update[FLAGS] = 0xF7;
+    POWER_UP(0, TAINHOSA_CUT, 0);
+    two_images(1, 2);
+    boot[256] ^= 1;
+    NO_POWER_UP(TAINHOSA_BAD_BOOT, TAINHOSA_WRONG_DIGEST, 256);
+    two_images(1, 2);
+    boot[STATUS] = TAINHOSA_STATUS_TESTING;
+    put(update + 16, 2, 0x0042);
+    NO_POWER_UP(TAINHOSA_NO_FALLBACK, TAINHOSA_TAG_MISSING, 0x0002);
+
+    two_images(1, 2);
+    flash.sectors = 65;
+    NO_POWER_UP(TAINHOSA_OUTSIDE_RULES, 0, 0);
+    flash = good;
+    flash.size = 384;
+    NO_POWER_UP(TAINHOSA_OUTSIDE_RULES, 0, 0);
+    flash = good;
+    flash.boot_length = 767;
+    NO_POWER_UP(TAINHOSA_OUTSIDE_RULES, 0, 0);
+    NO_COMMAND(tainhosa_flash_arm, TAINHOSA_OUTSIDE_RULES);
+    flash = good;
+    flash.update_length = 767;
+    NO_COMMAND(tainhosa_flash_confirm, TAINHOSA_OUTSIDE_RULES);
+    flash = good;
+    flash.swap_length = 255;
+    NO_POWER_UP(TAINHOSA_OUTSIDE_RULES, 0, 0);
+    flash = good;
+}
+
+/* The calls on rows, and rows of another length. */
+static void rows(void) {
+    uint64_t answer[TAINHOSA_POWER_UP_NUMBERS + 1], count[TAINHOSA_COMMAND_NUMBERS + 1];
+    EQUAL(TAINHOSA_POWER_UP_NUMBERS, 6);
+    EQUAL(TAINHOSA_COMMAND_NUMBERS, 1);
+    two_images(9, 9);
+    remember();
+    memset(answer, BEFORE, sizeof answer);
+    memset(count, BEFORE, sizeof count);
+    EQUAL(tainhosa_arm(3, 256, boot, 768, update, 768, swap, 256, count, 0), TAINHOSA_OUTSIDE_RULES);
+    EQUAL(tainhosa_arm(3, 256, boot, 768, update, 768, swap, 256, count, 2), TAINHOSA_OUTSIDE_RULES);
+    EQUAL(tainhosa_confirm(3, 256, boot, 768, update, 768, swap, 256, count, 2), TAINHOSA_OUTSIDE_RULES);
+    EQUAL(tainhosa_power_up(3, 256, boot, 768, update, 768, swap, 256, UINT64_MAX, answer, 5), TAINHOSA_OUTSIDE_RULES);
+    EQUAL(tainhosa_power_up(3, 256, boot, 768, update, 768, swap, 256, UINT64_MAX, answer, 7), TAINHOSA_OUTSIDE_RULES);
+    EVERY((const uint8_t *)answer, 0, sizeof answer, BEFORE);
+    EVERY((const uint8_t *)count, 0, sizeof count, BEFORE);
+    expect_unchanged();
+
+    EQUAL(tainhosa_arm(3, 256, boot, 768, update, 768, swap, 256, count, 1), TAINHOSA_OK);
+    EQUAL(count[TAINHOSA_COMMAND_COUNT], 2);
+    EQUAL(tainhosa_power_up(3, 256, boot, 768, update, 768, swap, 256, UINT64_MAX, answer, 6), TAINHOSA_OK);
+    EQUAL(answer[TAINHOSA_POWER_UP_OUTCOME], TAINHOSA_RUN);
+    EQUAL(answer[TAINHOSA_POWER_UP_COUNT], 1);
+    EQUAL(answer[TAINHOSA_POWER_UP_INNER], 0);
+    EQUAL(answer[TAINHOSA_POWER_UP_INNER_PLACE], 0);
+    EQUAL(answer[TAINHOSA_POWER_UP_REASON], TAINHOSA_NOT_NEWER);
+    EQUAL(answer[TAINHOSA_POWER_UP_REASON_PLACE], 0);
+    EQUAL(tainhosa_confirm(3, 256, boot, 768, update, 768, swap, 256, count, 1), TAINHOSA_WRONG_TIME);
+    EQUAL(count[TAINHOSA_COMMAND_COUNT], 0);
+    boot[STATUS] = TAINHOSA_STATUS_TESTING;
+    EQUAL(tainhosa_confirm(3, 256, boot, 768, update, 768, swap, 256, count, 1), TAINHOSA_OK);
+    EQUAL(count[TAINHOSA_COMMAND_COUNT], 1);
+    boot[256] ^= 1;
+    EQUAL(tainhosa_power_up(3, 256, boot, 768, update, 768, swap, 256, UINT64_MAX, answer, 6), TAINHOSA_BAD_BOOT);
+    EQUAL(answer[TAINHOSA_POWER_UP_OUTCOME], TAINHOSA_REFUSED);
+    EQUAL(answer[TAINHOSA_POWER_UP_INNER], TAINHOSA_WRONG_DIGEST);
+    EQUAL(answer[TAINHOSA_POWER_UP_INNER_PLACE], 256);
+}
+
+int main(void) {
+    constants();
+    digests();
+    writing();
+    reading();
+    walking();
+    sheets();
+    making();
+    images();
+    an_update();
+    after_an_update();
+    turning_down();
+    refusals();
+    rows();
+    printf("%d expectations, %d wrong\n", tried, wrong);
+    return wrong == 0 ? 0 : 1;
+}
