@@ -53,10 +53,9 @@ impl LentFlash {
     }
 }
 
-/// The values of a header that are passed as numbers.
+/// The values of a header that are passed as numbers, besides its size.
 #[derive(Clone, Copy, PartialEq)]
 pub struct Values {
-    pub size: u32,
     pub version: u32,
     pub timestamp: u64,
     pub auth_type: u16,
@@ -67,9 +66,12 @@ pub struct Values {
 pub enum Call {
     Sha256 { message: Lent<u8>, digest: Lent<u8> },
     ReadHeader { input: Lent<u8>, numbers: Lent<u64>, bytes: Lent<u8> },
-    WriteHeader { out: Lent<u8>, values: Values, bytes: Lent<u8>, place: Lent<u64> },
+    WriteHeader { out: Lent<u8>, size: u32, values: Values, bytes: Lent<u8>, place: Lent<u64> },
+    MakeHeader { out: Lent<u8>, firmware: Lent<u8>, values: Values, bytes: Lent<u8>, place: Lent<u64> },
     NextTag { input: Lent<u8>, at: usize, tag: Lent<u64> },
+    ReadSheet { text: Lent<u8>, numbers: Lent<u64>, bytes: Lent<u8> },
     CheckImage { g: Geometry, partition: Lent<u8>, numbers: Lent<u64>, bytes: Lent<u8> },
+    CheckFirmware { image: Lent<u8>, numbers: Lent<u64>, bytes: Lent<u8> },
     PowerUp { g: Geometry, flash: LentFlash, budget: u64, answer: Lent<u64> },
     Arm { g: Geometry, flash: LentFlash, count: Lent<u64> },
     Confirm { g: Geometry, flash: LentFlash, count: Lent<u64> },
@@ -83,6 +85,15 @@ pub enum Part<'a> {
 
 fn sizes<'a>(g: &Geometry) -> Vec<(&'static str, Part<'a>)> {
     vec![("sectors", Part::Number(g.n as u64)), ("size", Part::Number(g.s as u64))]
+}
+
+fn values<'a>(v: &Values) -> Vec<(&'static str, Part<'a>)> {
+    vec![
+        ("version", Part::Number(v.version as u64)),
+        ("timestamp", Part::Number(v.timestamp)),
+        ("auth_type", Part::Number(v.auth_type as u64)),
+        ("has_hint", Part::Number(v.has_hint as u64)),
+    ]
 }
 
 fn buffers(f: &LentFlash) -> Vec<(&'static str, Part<'_>)> {
@@ -115,8 +126,11 @@ impl Call {
             Call::Sha256 { .. } => "sha256",
             Call::ReadHeader { .. } => "read_header",
             Call::WriteHeader { .. } => "write_header",
+            Call::MakeHeader { .. } => "make_header",
             Call::NextTag { .. } => "next_tag",
+            Call::ReadSheet { .. } => "read_sheet",
             Call::CheckImage { .. } => "check_image",
+            Call::CheckFirmware { .. } => "check_firmware",
             Call::PowerUp { .. } => "power_up",
             Call::Arm { .. } => "arm",
             Call::Confirm { .. } => "confirm",
@@ -130,18 +144,26 @@ impl Call {
             Call::ReadHeader { input, numbers, bytes } => {
                 vec![("input", Part::Bytes(input)), ("numbers", Part::Row(numbers)), ("bytes", Part::Bytes(bytes))]
             }
-            Call::WriteHeader { out, values, bytes, place } => vec![
-                ("out", Part::Bytes(out)),
-                ("size", Part::Number(values.size as u64)),
-                ("version", Part::Number(values.version as u64)),
-                ("timestamp", Part::Number(values.timestamp)),
-                ("auth_type", Part::Number(values.auth_type as u64)),
-                ("has_hint", Part::Number(values.has_hint as u64)),
-                ("bytes", Part::Bytes(bytes)),
-                ("place", Part::Row(place)),
-            ],
+            Call::WriteHeader { out, size, values: v, bytes, place } => {
+                let mut all = vec![("out", Part::Bytes(out)), ("size", Part::Number(*size as u64))];
+                all.extend(values(v));
+                all.extend([("bytes", Part::Bytes(bytes)), ("place", Part::Row(place))]);
+                all
+            }
+            Call::MakeHeader { out, firmware, values: v, bytes, place } => {
+                let mut all = vec![("out", Part::Bytes(out)), ("firmware", Part::Bytes(firmware))];
+                all.extend(values(v));
+                all.extend([("bytes", Part::Bytes(bytes)), ("place", Part::Row(place))]);
+                all
+            }
             Call::NextTag { input, at, tag } => {
                 vec![("input", Part::Bytes(input)), ("at", Part::Number(*at as u64)), ("tag", Part::Row(tag))]
+            }
+            Call::ReadSheet { text, numbers, bytes } => {
+                vec![("text", Part::Bytes(text)), ("numbers", Part::Row(numbers)), ("bytes", Part::Bytes(bytes))]
+            }
+            Call::CheckFirmware { image, numbers, bytes } => {
+                vec![("image", Part::Bytes(image)), ("numbers", Part::Row(numbers)), ("bytes", Part::Bytes(bytes))]
             }
             Call::CheckImage { g, partition, numbers, bytes } => {
                 let mut all = sizes(g);
@@ -173,7 +195,10 @@ impl Call {
             Call::Sha256 { digest, .. } => vec![("digest", digest.len(), 32)],
             Call::ReadHeader { numbers, bytes, .. } => vec![("numbers", numbers.len(), 6), ("bytes", bytes.len(), 128)],
             Call::WriteHeader { bytes, place, .. } => vec![("bytes", bytes.len(), 128), ("place", place.len(), 1)],
+            Call::MakeHeader { bytes, place, .. } => vec![("bytes", bytes.len(), 96), ("place", place.len(), 1)],
             Call::NextTag { tag, .. } => vec![("tag", tag.len(), 6)],
+            Call::ReadSheet { numbers, bytes, .. } => vec![("numbers", numbers.len(), 5), ("bytes", bytes.len(), 96)],
+            Call::CheckFirmware { numbers, bytes, .. } => vec![("numbers", numbers.len(), 6), ("bytes", bytes.len(), 128)],
             Call::CheckImage { g, partition, numbers, bytes } => {
                 let mut all = partition_length("partition", g, partition);
                 all.extend([("numbers", numbers.len(), 6), ("bytes", bytes.len(), 128)]);
@@ -198,6 +223,9 @@ impl Call {
             Call::Sha256 { message, .. } => message.len() > 5000,
             Call::ReadHeader { input, .. } | Call::NextTag { input, .. } => input.len() > 4 * HEADER,
             Call::WriteHeader { out, .. } => out.len() > 4 * HEADER,
+            Call::MakeHeader { firmware, .. } => firmware.len() > 5000,
+            Call::ReadSheet { text, .. } => text.len() > 2000,
+            Call::CheckFirmware { image, .. } => image.len() > 5000,
             Call::CheckImage { g, .. } | Call::PowerUp { g, .. } | Call::Arm { g, .. } | Call::Confirm { g, .. } => {
                 g.n > 6 || g.s > 768
             }

@@ -4,6 +4,7 @@ use crate::inputs::*;
 use crate::random::Random;
 use crate::reference::*;
 use crate::report::Compare;
+use crate::sheets::sheet_text;
 
 // ---- buffers
 
@@ -101,32 +102,31 @@ fn walk(c: &mut Compare, r: &mut Random, input: &[u8]) {
     }
 }
 
-fn try_write(c: &mut Compare, r: &mut Random) {
-    let any = r.next() as u32;
-    let values = Values {
-        size: r.pick(&[0, 1, u32::MAX, any, any, any]),
-        version: any_version(r),
-        timestamp: r.next(),
-        auth_type: r.next() as u16,
-        has_hint: r.one_in(2),
-    };
+fn any_values(r: &mut Random) -> Values {
+    Values { version: any_version(r), timestamp: any_timestamp(r), auth_type: r.next() as u16, has_hint: r.one_in(2) }
+}
+
+/// The room to write a header to: at times too little, often with bytes behind it.
+fn any_out(r: &mut Random) -> Lent<u8> {
     let (short, long, behind) = (r.below(HEADER), r.length(13), r.below(50));
     let room = r.pick(&[0, short, HEADER - 1, HEADER, HEADER, HEADER + 1, HEADER + behind, HEADER + behind, HEADER + long]);
-    let out = Lent::new(&r.bytes(room));
-    c.call(Call::WriteHeader { out, values, bytes: bytes(r, 128), place: row(r, 1) });
+    Lent::new(&r.bytes(room))
+}
+
+fn try_write(c: &mut Compare, r: &mut Random) {
+    let any = r.next() as u32;
+    let size = r.pick(&[0, 1, u32::MAX, any, any, any]);
+    let (out, values) = (any_out(r), any_values(r));
+    c.call(Call::WriteHeader { out, size, values, bytes: bytes(r, 128), place: row(r, 1) });
 }
 
 /// The values that were read are written, and read again: they have to be the same.
 fn write_and_read(c: &mut Compare, r: &mut Random, first: &Call, numbers: &[u64], bytes: &[u8]) {
-    let values = Values {
-        size: numbers[1] as u32,
-        version: numbers[2] as u32,
-        timestamp: numbers[3],
-        auth_type: numbers[4] as u16,
-        has_hint: numbers[5] == 1,
-    };
+    let values =
+        Values { version: numbers[2] as u32, timestamp: numbers[3], auth_type: numbers[4] as u16, has_hint: numbers[5] == 1 };
     let out = Lent::new(&r.bytes(HEADER));
-    let (_, written) = c.call(Call::WriteHeader { out, values, bytes: Lent::new(bytes), place: Lent::new(&[1]) });
+    let (_, written) =
+        c.call(Call::WriteHeader { out, size: numbers[1] as u32, values, bytes: Lent::new(bytes), place: Lent::new(&[1]) });
     if let Call::WriteHeader { out, .. } = &written {
         let (numbers_room, bytes_room) = (Lent::new(&[1; 6]), Lent::new(&[1; 128]));
         let (_, again) = c.call(Call::ReadHeader { input: out.clone(), numbers: numbers_room, bytes: bytes_room });
@@ -149,6 +149,72 @@ fn try_header(c: &mut Compare, r: &mut Random) {
     }
     c.call(Call::NextTag { input: Lent::new(&b), at: any_place(r), tag: row(r, 6) });
     try_write(c, r);
+}
+
+// ---- sheets and files
+
+/// A firmware gets the header that the sheet's values and the firmware decide, and the file of both is good and has these values.
+fn make_and_check(c: &mut Compare, r: &mut Random, sheet: &Call, numbers: &[u64], stated: &[u8]) {
+    let (few, some) = (r.within(1, 300), r.length(14) + 1);
+    let length = r.pick(&[few, few, few, some]);
+    let firmware = r.bytes(length);
+    let values =
+        Values { version: numbers[1] as u32, timestamp: numbers[2], auth_type: numbers[3] as u16, has_hint: numbers[4] == 1 };
+    let (_, made) = c.call(Call::MakeHeader {
+        out: Lent::new(&r.bytes(HEADER)),
+        firmware: Lent::new(&firmware),
+        values,
+        bytes: Lent::new(stated),
+        place: Lent::new(&[1]),
+    });
+    if let Call::MakeHeader { out, .. } = &made {
+        let file = [&out[..], &firmware].concat();
+        let (numbers_room, bytes_room) = (Lent::new(&[1; 6]), Lent::new(&[1; 128]));
+        let (_, checked) = c.call(Call::CheckFirmware { image: Lent::new(&file), numbers: numbers_room, bytes: bytes_room });
+        let expected = [&[0, firmware.len() as u64], &numbers[1..]].concat();
+        if !matches!(&checked, Call::CheckFirmware { numbers: n, bytes: b, .. } if n[..] == expected && b[32..] == *stated) {
+            c.fail("the file of a made header and its firmware is not good, or has other values", &[sheet, &made, &checked]);
+        }
+    }
+}
+
+fn try_sheet(c: &mut Compare, r: &mut Random) {
+    let text = Lent::new(&sheet_text(r));
+    let (answer, after) = c.call(Call::ReadSheet { text, numbers: row(r, 5), bytes: bytes(r, 96) });
+    if let (0, Call::ReadSheet { numbers, bytes, .. }) = (answer, &after) {
+        make_and_check(c, r, &after, numbers, bytes);
+    }
+}
+
+fn try_file(c: &mut Compare, r: &mut Random) {
+    let image = Lent::new(&file(r));
+    c.call(Call::CheckFirmware { image, numbers: row(r, 6), bytes: bytes(r, 128) });
+    let (few, some) = (r.below(200), r.length(14));
+    let length = r.pick(&[0, 1, few, few, some]);
+    let (out, firmware, values) = (any_out(r), Lent::new(&r.bytes(length)), any_values(r));
+    c.call(Call::MakeHeader { out, firmware, values, bytes: bytes(r, 96), place: row(r, 1) });
+}
+
+/// Firmwares of 2^32 bytes and of one more are refused. The zeros are lent by the system, which has not to keep them.
+pub fn try_largest_firmware(c: &Compare) {
+    const MOST: usize = (1 << 32) + 1;
+    let layout = std::alloc::Layout::array::<u8>(MOST).unwrap();
+    // The zeros are a buffer of that layout, and are given back behind the calls.
+    let zeros = unsafe { std::alloc::alloc_zeroed(layout) };
+    if zeros.is_null() {
+        println!("a firmware of 2^32 bytes: not tried, since the system lends no such buffer");
+        return;
+    }
+    for length in [MOST - 1, MOST] {
+        let firmware = unsafe { std::slice::from_raw_parts(zeros, length) };
+        let (mut out, mut place) = ([0xA5; 300], [7]);
+        let values = tainhosa::raw::Values { version: 1, timestamp: 2, auth_type: 3, has_hint: false };
+        let answer = tainhosa::raw::make_header(&mut out, firmware, values, &[0; 96], &mut place);
+        if answer != 3 || place != [4] || out != [0xA5; 300] {
+            c.fail(&format!("a firmware of {length} bytes is answered {answer} at {place:?}"), &[]);
+        }
+    }
+    unsafe { std::alloc::dealloc(zeros, layout) };
 }
 
 // ---- images and flash
@@ -204,6 +270,8 @@ pub fn try_any(c: &mut Compare, r: &mut Random) {
             let g = geometry(r);
             try_flash(c, r, g);
         }
+        101..=130 => try_sheet(c, r),
+        131..=150 => try_file(c, r),
         _ => try_header(c, r),
     }
 }

@@ -22,7 +22,8 @@ fn tears(next: Option<Operation>) -> &'static [Tear] {
     }
 }
 
-/// A power-up of the list.
+/// A power-up of the list, which is printed where it broke demand 3.
+#[allow(dead_code)]
 #[derive(Clone, Debug)]
 enum Event {
     Untorn { budget: u64 },

@@ -24,7 +24,7 @@ pub fn any_version(r: &mut Random) -> u32 {
     r.pick(&[0, 1, 2, 3, 3, 0x7FFF_FFFF, 0x8000_0000, u32::MAX, any])
 }
 
-fn any_timestamp(r: &mut Random) -> u64 {
+pub fn any_timestamp(r: &mut Random) -> u64 {
     let any = r.next();
     r.pick(&[0, 1_700_000_000, u64::MAX, any, any, any])
 }
@@ -231,6 +231,37 @@ pub fn partition(r: &mut Random, g: Geometry, version: u32, wrong: u64) -> Vec<u
     let h = header_bytes(r, &v, wrong);
     p[..HEADER].copy_from_slice(&h);
     p
+}
+
+/// A file with an image: mostly good, else made for a refusal, or cut short. Often something stands behind the firmware.
+pub fn file(r: &mut Random) -> Vec<u8> {
+    let wrong = any_wrong(r, 9);
+    let (few, some) = (r.within(1, 300), r.length(14) + 1);
+    let length = r.pick(&[1, few, few, few, some]);
+    let mut code = r.bytes(length);
+    let version = any_version(r);
+    let mut v = header(r, &code, version);
+    if wrong == 3 {
+        v.size = r.pick(&[0, v.size + 1, v.size + 1, u32::MAX]);
+    }
+    if wrong == 9 {
+        let wrong_byte = r.pick(&[0, length - 1]);
+        code[wrong_byte] ^= 1 << r.below(8);
+    }
+    let mut b = header_bytes(r, &v, wrong);
+    b.extend_from_slice(&code);
+    if wrong != 3 && r.one_in(2) {
+        let behind = r.length(9);
+        b.extend_from_slice(&r.bytes(behind));
+    }
+    if r.one_in(10) {
+        damage(r, &mut b, HEADER);
+    }
+    if r.one_in(10) {
+        let any = r.below(b.len());
+        b.truncate(r.pick(&[0, HEADER - 1, HEADER, any, HEADER + length - 1]));
+    }
+    b
 }
 
 // ---- flashes

@@ -32,9 +32,7 @@ const K: [u32; 64] = [
 ];
 
 pub fn sha256(message: &[u8]) -> [u8; 32] {
-    let mut h: [u32; 8] = [
-        0x6a09e667, 0xbb67ae85, 0x3c6ef372, 0xa54ff53a, 0x510e527f, 0x9b05688c, 0x1f83d9ab, 0x5be0cd19,
-    ];
+    let mut h: [u32; 8] = [0x6a09e667, 0xbb67ae85, 0x3c6ef372, 0xa54ff53a, 0x510e527f, 0x9b05688c, 0x1f83d9ab, 0x5be0cd19];
     let mut padded = message.to_vec();
     padded.push(0x80);
     while padded.len() % 64 != 56 {
@@ -195,6 +193,108 @@ pub fn write_header(out: &mut [u8], v: &Header) -> Result<(), Refusal> {
     Ok(())
 }
 
+// ---- the release sheet
+
+#[derive(Clone, Debug, PartialEq, Eq)]
+pub struct Sheet {
+    pub version: u32,
+    pub timestamp: u64,
+    pub auth_type: u16,
+    pub signature: [u8; 64],
+    pub hint: Option<[u8; 32]>,
+}
+
+/// The names of a sheet's lines, in the order of the types that they are for.
+pub const NAMES: [(&str, u64); 5] =
+    [("version", 0x0001), ("timestamp", 0x0002), ("signature", 0x0020), ("auth", 0x0030), ("hint", 0x1000)];
+
+/// Decimal digits and nothing else, of a number below 2^bits. Leading zeros are taken.
+fn decimal(value: &[u8], bits: u32) -> Option<u64> {
+    if value.is_empty() {
+        return None;
+    }
+    let mut sum = 0u128;
+    for c in value {
+        let digit = (*c as char).to_digit(10)?;
+        sum = (sum * 10 + digit as u128).min(1 << 64);
+    }
+    (sum < 1 << bits).then_some(sum as u64)
+}
+
+/// Two hex digits for each of N bytes, the high one first, and nothing else.
+fn hex_digits<const N: usize>(value: &[u8]) -> Option<[u8; N]> {
+    let digits: Option<Vec<u8>> = value.iter().map(|c| (*c as char).to_digit(16).map(|d| d as u8)).collect();
+    let digits = digits.filter(|all| all.len() == 2 * N)?;
+    Some(std::array::from_fn(|i| 16 * digits[2 * i] + digits[2 * i + 1]))
+}
+
+pub fn read_sheet(text: &[u8]) -> Result<Sheet, Refusal> {
+    let (mut version, mut timestamp, mut auth_type, mut signature, mut hint) = (None, None, None, None, None);
+    for (i, line) in text.split(|c| *c == b'\n').enumerate() {
+        if line.is_empty() || line[0] == b'#' {
+            continue;
+        }
+        let number = i as u64 + 1;
+        let space = match line.iter().position(|c| *c == b' ') {
+            None => return refuse(101, number),
+            Some(at) => at,
+        };
+        let (name, value) = (&line[..space], &line[space + 1..]);
+        let (known, repeated) = match name {
+            b"version" => (decimal(value, 32).is_some(), version.is_some()),
+            b"timestamp" => (decimal(value, 64).is_some(), timestamp.is_some()),
+            b"auth" => (decimal(value, 16).is_some(), auth_type.is_some()),
+            b"signature" => (hex_digits::<64>(value).is_some(), signature.is_some()),
+            b"hint" => (value == b"no" || hex_digits::<32>(value).is_some(), hint.is_some()),
+            _ => return refuse(102, number),
+        };
+        if !known {
+            return refuse(103, number);
+        }
+        if repeated {
+            return refuse(104, number);
+        }
+        match name {
+            b"version" => version = decimal(value, 32),
+            b"timestamp" => timestamp = decimal(value, 64),
+            b"auth" => auth_type = decimal(value, 16),
+            b"signature" => signature = hex_digits(value),
+            _ => hint = Some(hex_digits(value)),
+        }
+    }
+    let stated = [version.is_some(), timestamp.is_some(), signature.is_some(), auth_type.is_some(), hint.is_some()];
+    if let Some(missing) = stated.iter().position(|s| !s) {
+        return refuse(105, NAMES[missing].1);
+    }
+    Ok(Sheet {
+        version: version.unwrap() as u32,
+        timestamp: timestamp.unwrap(),
+        auth_type: auth_type.unwrap() as u16,
+        signature: signature.unwrap(),
+        hint: hint.unwrap(),
+    })
+}
+
+/// The header of a firmware: its size and digest are the firmware's, all else is the sheet's.
+pub fn make_header(out: &mut [u8], firmware: &[u8], sheet: &Sheet) -> Result<(), Refusal> {
+    if out.len() < HEADER {
+        return refuse(16, 0);
+    }
+    if firmware.is_empty() || firmware.len() >= 1 << 32 {
+        return refuse(3, 4);
+    }
+    let header = Header {
+        size: firmware.len() as u32,
+        version: sheet.version,
+        timestamp: sheet.timestamp,
+        digest: sha256(firmware),
+        signature: sheet.signature,
+        auth_type: sheet.auth_type,
+        hint: sheet.hint,
+    };
+    write_header(out, &header)
+}
+
 // ---- the flash
 
 #[derive(Clone, Copy, Debug, PartialEq, Eq)]
@@ -267,6 +367,18 @@ pub fn check_image(g: Geometry, partition: &[u8]) -> Result<Header, Refusal> {
         return refuse(3, 4);
     }
     if sha256(&partition[HEADER..HEADER + h.size as usize]) != h.digest {
+        return refuse(9, HEADER as u64);
+    }
+    Ok(h)
+}
+
+/// The same of a file: its bytes stand for the firmware sectors.
+pub fn check_firmware(image: &[u8]) -> Result<Header, Refusal> {
+    let h = read_header(image)?;
+    if h.size as usize > image.len() - HEADER {
+        return refuse(3, 4);
+    }
+    if sha256(&image[HEADER..HEADER + h.size as usize]) != h.digest {
         return refuse(9, HEADER as u64);
     }
     Ok(h)

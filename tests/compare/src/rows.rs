@@ -34,9 +34,9 @@ fn lay_out_header(answer: Result<Header, Refusal>, numbers: &mut Lent<u64>, byte
     number(&answer)
 }
 
-fn values(v: &Values, bytes: &[u8]) -> Header {
+fn values(size: u32, v: &Values, bytes: &[u8]) -> Header {
     Header {
-        size: v.size,
+        size,
         version: v.version,
         timestamp: v.timestamp,
         digest: bytes[..32].try_into().unwrap(),
@@ -44,6 +44,28 @@ fn values(v: &Values, bytes: &[u8]) -> Header {
         auth_type: v.auth_type,
         hint: v.has_hint.then(|| bytes[96..].try_into().unwrap()),
     }
+}
+
+fn sheet(v: &Values, bytes: &[u8]) -> Sheet {
+    Sheet {
+        version: v.version,
+        timestamp: v.timestamp,
+        auth_type: v.auth_type,
+        signature: bytes[..64].try_into().unwrap(),
+        hint: v.has_hint.then(|| bytes[64..].try_into().unwrap()),
+    }
+}
+
+fn lay_out_sheet(answer: Result<Sheet, Refusal>, numbers: &mut [u64], bytes: &mut [u8]) -> u32 {
+    numbers.fill(0);
+    bytes.fill(0);
+    numbers[0] = place(&answer);
+    if let Ok(s) = &answer {
+        numbers[1..].copy_from_slice(&[s.version as u64, s.timestamp, s.auth_type as u64, s.hint.is_some() as u64]);
+        bytes[..64].copy_from_slice(&s.signature);
+        bytes[64..].copy_from_slice(&s.hint.unwrap_or([0; 32]));
+    }
+    number(&answer)
 }
 
 fn lay_out_tag(answer: Result<Option<(usize, u16, usize)>, Refusal>, at: usize, tag: &mut [u64]) -> u32 {
@@ -100,11 +122,20 @@ pub fn answer(call: &mut Call) -> u32 {
         }
         Call::ReadHeader { input, numbers, bytes } => lay_out_header(read_header(input), numbers, bytes),
         Call::WriteHeader { bytes, place, .. } if bytes.len() != 128 || place.len() != 1 => WRONG_LENGTH,
-        Call::WriteHeader { out, values: v, bytes, place: row } => {
-            let answer = write_header(out, &values(v, bytes));
+        Call::WriteHeader { out, size, values: v, bytes, place: row } => {
+            let answer = write_header(out, &values(*size, v, bytes));
             row[0] = place(&answer);
             number(&answer)
         }
+        Call::MakeHeader { bytes, place, .. } if bytes.len() != 96 || place.len() != 1 => WRONG_LENGTH,
+        Call::MakeHeader { out, firmware, values: v, bytes, place: row } => {
+            let answer = make_header(out, firmware, &sheet(v, bytes));
+            row[0] = place(&answer);
+            number(&answer)
+        }
+        Call::ReadSheet { numbers, bytes, .. } if numbers.len() != 5 || bytes.len() != 96 => WRONG_LENGTH,
+        Call::ReadSheet { text, numbers, bytes } => lay_out_sheet(read_sheet(text), numbers, bytes),
+        Call::CheckFirmware { image, numbers, bytes } => lay_out_header(check_firmware(image), numbers, bytes),
         Call::NextTag { tag, .. } if tag.len() != 6 => WRONG_LENGTH,
         Call::NextTag { input, at, tag } => lay_out_tag(next_tag(input, *at), *at, tag),
         Call::CheckImage { g, partition, numbers, bytes } => lay_out_header(check_image(*g, partition), numbers, bytes),

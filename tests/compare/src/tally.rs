@@ -1,6 +1,6 @@
 //! How often each call gave each answer, and what has to be met in a run.
 use crate::call::Call;
-use crate::reference::{next_tag, HEADER};
+use crate::reference::{next_tag, HEADER, NAMES};
 use std::collections::BTreeMap;
 
 const TYPES: [u16; 6] = [0x0001, 0x0002, 0x0003, 0x0020, 0x0030, 0x1000];
@@ -112,6 +112,33 @@ fn of_power_up(number: u32, row: &[u64]) -> Vec<String> {
     all
 }
 
+/// What is special in a sheet that was read, or which name it was refused for.
+fn of_sheet(text: &[u8], number: u32, place: u64) -> Vec<String> {
+    match number {
+        0 => {
+            let mut all = Vec::new();
+            if text.last() != Some(&b'\n') {
+                all.push("done, without the last line's end".to_string());
+            }
+            let hint = |line: &[u8]| line.starts_with(b"hint ") && line != b"hint no";
+            if text.split(|c| *c == b'\n').any(hint) {
+                all.push("done, with a hint".to_string());
+            }
+            all
+        }
+        103 | 104 => {
+            let line = text.split(|c| *c == b'\n').nth(place as usize - 1).unwrap_or(b"");
+            let name = line.split(|c| *c == b' ').next().unwrap_or(b"");
+            vec![format!("refused {number} for {}", String::from_utf8_lossy(name))]
+        }
+        105 => {
+            let name = NAMES.iter().find(|(_, kind)| *kind == place).map_or("no name", |(name, _)| name);
+            vec![format!("refused 105 for {name}")]
+        }
+        _ => vec![],
+    }
+}
+
 fn answers(asked: &Call, number: u32, after: &Call) -> Vec<String> {
     let mut all = match after {
         Call::PowerUp { answer, .. } if answer.len() == 6 => of_power_up(number, answer),
@@ -120,6 +147,13 @@ fn answers(asked: &Call, number: u32, after: &Call) -> Vec<String> {
     };
     if let (Call::ReadHeader { input, .. }, 0) = (asked, number) {
         all.extend(of_header(input));
+    }
+    if let (Call::ReadSheet { text, numbers, .. }, true) = (after, number != 1) {
+        all.extend(of_sheet(text, number, numbers[0]));
+    }
+    if let (Call::CheckFirmware { image, numbers, .. }, 0) = (after, number) {
+        let behind = if image.len() as u64 > HEADER as u64 + numbers[1] { "bytes" } else { "nothing" };
+        all.push(format!("done, {behind} behind the firmware"));
     }
     if asked.is_long() && number != 1 {
         all.push("on long buffers".to_string());
@@ -130,12 +164,15 @@ fn answers(asked: &Call, number: u32, after: &Call) -> Vec<String> {
 // ---- what has to be met
 
 fn answers_to_meet() -> Vec<String> {
-    let numbers: [(&str, &[u32]); 8] = [
+    let numbers: [(&str, &[u32]); 11] = [
         ("sha256", &[0, 1]),
         ("read_header", &[0, 1, 2, 3, 4, 5, 6, 7, 8, 16]),
         ("write_header", &[0, 1, 3, 16]),
+        ("make_header", &[0, 1, 3, 16]),
         ("next_tag", &[1, 4, 7, 16]),
+        ("read_sheet", &[0, 1, 101, 102, 103, 104]),
         ("check_image", &[0, 1, 2, 3, 4, 5, 6, 7, 8, 9]),
+        ("check_firmware", &[0, 1, 2, 3, 4, 5, 6, 7, 8, 9, 16]),
         ("power_up", &[1, 10, 11]),
         ("arm", &[0, 1, 10, 14]),
         ("confirm", &[0, 1, 10, 11, 14]),
@@ -147,6 +184,10 @@ fn answers_to_meet() -> Vec<String> {
         "read_header: done, end at 254",
         "read_header: done, with other tags",
         "read_header: done, with a hint",
+        "read_sheet: done, with a hint",
+        "read_sheet: done, without the last line's end",
+        "check_firmware: done, nothing behind the firmware",
+        "check_firmware: done, bytes behind the firmware",
         "power_up: cut",
         "power_up: run",
         "power_up: run on test",
@@ -162,6 +203,11 @@ fn answers_to_meet() -> Vec<String> {
         all.push(format!("{call}: on long buffers"));
         all.extend(answers.iter().map(|n| format!("{call}: {}", answered(*n))));
     }
+    for (name, _) in NAMES {
+        all.push(format!("read_sheet: refused 105 for {name}"));
+        all.push(format!("read_sheet: refused 103 for {name}"));
+        all.push(format!("read_sheet: refused 104 for {name}"));
+    }
     for inner in 2..=9 {
         all.push(format!("power_up: refused 12 for {inner}"));
         all.push(format!("power_up: refused 13 for {inner}"));
@@ -171,12 +217,15 @@ fn answers_to_meet() -> Vec<String> {
 }
 
 fn lengths_to_meet() -> Vec<(String, &'static str)> {
-    let buffers: [(&str, &[&str]); 8] = [
+    let buffers: [(&str, &[&str]); 11] = [
         ("sha256", &["digest"]),
         ("read_header", &["numbers", "bytes"]),
         ("write_header", &["bytes", "place"]),
+        ("make_header", &["bytes", "place"]),
         ("next_tag", &["tag"]),
+        ("read_sheet", &["numbers", "bytes"]),
         ("check_image", &["partition", "numbers", "bytes"]),
+        ("check_firmware", &["numbers", "bytes"]),
         ("power_up", &["boot", "update", "swap", "answer"]),
         ("arm", &["boot", "update", "swap", "count"]),
         ("confirm", &["boot", "update", "swap", "count"]),

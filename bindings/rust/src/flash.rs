@@ -1,0 +1,250 @@
+use crate::raw::{self, Buffers};
+use crate::{PowerUp, Refusal};
+use std::fmt;
+
+/// How many sectors a partition has, and how many bytes a sector. It is within the rules: 2 to 64 sectors; a size from 256 to 131,072
+/// that is a multiple of 256.
+#[derive(Clone, Copy, Debug, PartialEq, Eq)]
+pub struct Geometry {
+    sectors: usize,
+    size: usize,
+}
+
+impl Geometry {
+    /// The geometry of so many sectors of this size.
+    ///
+    /// Refused with 1 outside the rules.
+    pub fn new(sectors: usize, size: usize) -> Result<Geometry, Refusal> {
+        let within = (2..=64).contains(&sectors) && (256..=131_072).contains(&size) && size % 256 == 0;
+        if within {
+            Ok(Geometry { sectors, size })
+        } else {
+            Err(Refusal::new(1, 0))
+        }
+    }
+
+    /// The sectors of a partition, its trailer sector counted.
+    pub fn sectors(self) -> usize {
+        self.sectors
+    }
+
+    /// The bytes of a sector.
+    pub fn size(self) -> usize {
+        self.size
+    }
+
+    /// The sectors that hold an image: all but the last.
+    pub fn firmware_sectors(self) -> usize {
+        self.sectors - 1
+    }
+
+    /// The bytes of a partition.
+    pub fn partition(self) -> usize {
+        self.sectors * self.size
+    }
+}
+
+/// The status byte of a partition, its last byte.
+#[derive(Clone, Copy, Debug, PartialEq, Eq)]
+pub enum Status {
+    /// FF: nothing is going on (BOOT and UPDATE).
+    New,
+    /// 70: an update is armed or under way (UPDATE).
+    Updating,
+    /// 10: the image runs on test (BOOT).
+    Testing,
+    /// 00: the image was confirmed (BOOT).
+    Success,
+    /// Another byte, which no call leaves.
+    Other(u8),
+}
+
+impl Status {
+    /// The status that a byte stands for.
+    pub fn of(byte: u8) -> Status {
+        match byte {
+            0xFF => Status::New,
+            0x70 => Status::Updating,
+            0x10 => Status::Testing,
+            0x00 => Status::Success,
+            other => Status::Other(other),
+        }
+    }
+
+    /// The byte that stands for it.
+    pub fn byte(self) -> u8 {
+        match self {
+            Status::New => 0xFF,
+            Status::Updating => 0x70,
+            Status::Testing => 0x10,
+            Status::Success => 0x00,
+            Status::Other(byte) => byte,
+        }
+    }
+}
+
+impl fmt::Display for Status {
+    fn fmt(&self, f: &mut fmt::Formatter<'_>) -> fmt::Result {
+        match self {
+            Status::New => f.write_str("NEW"),
+            Status::Updating => f.write_str("UPDATING"),
+            Status::Testing => f.write_str("TESTING"),
+            Status::Success => f.write_str("SUCCESS"),
+            Status::Other(byte) => write!(f, "{byte:02X}"),
+        }
+    }
+}
+
+/// How far a firmware sector's exchange has come.
+#[derive(Clone, Copy, Debug, PartialEq, Eq)]
+pub enum Flag {
+    /// F: not yet begun.
+    Untouched,
+    /// 7: UPDATE's sector is in SWAP.
+    Saved,
+    /// 3: and BOOT's is in UPDATE.
+    Moved,
+    /// 0: and UPDATE's is in BOOT.
+    Exchanged,
+    /// Another value, which no exchange leaves.
+    Other(u8),
+}
+
+impl Flag {
+    fn of(half: u8) -> Flag {
+        match half {
+            0xF => Flag::Untouched,
+            0x7 => Flag::Saved,
+            0x3 => Flag::Moved,
+            0x0 => Flag::Exchanged,
+            other => Flag::Other(other),
+        }
+    }
+}
+
+/// The flash: BOOT, UPDATE and SWAP, in buffers that are lent.
+///
+/// A store to them stands for an operation of the flash, and it is the user's part that it becomes one.
+///
+/// ```
+/// use tainhosa::{Flag, Flash, Geometry, Outcome, Sheet, Status};
+///
+/// let geometry = Geometry::new(3, 256)?;
+/// let partition = |version| {
+///     let sheet = Sheet { version, timestamp: 0, auth_type: 0, signature: [0; 64], hint: None };
+///     let firmware = [version as u8; 200];
+///     let mut bytes = [&sheet.make_header(&firmware)?[..], &firmware].concat();
+///     bytes.resize(geometry.partition(), 0xFF);
+///     Ok::<_, tainhosa::Refusal>(bytes)
+/// };
+/// let (mut boot, mut update, mut swap) = (partition(7)?, partition(8)?, [0; 256]);
+/// let mut flash = Flash::new(geometry, &mut boot, &mut update, &mut swap)?;
+///
+/// assert_eq!(flash.arm()?, 2);
+/// assert_eq!(flash.power_up_within(5).outcome, Outcome::Cut);
+/// assert_eq!(flash.flags(), [Flag::Saved, Flag::Untouched]);
+/// assert_eq!(flash.power_up().outcome, Outcome::RunOnTest);
+/// assert_eq!(flash.confirm()?, 1);
+/// assert_eq!(flash.boot_status(), Status::Success);
+/// assert_eq!(flash.confirm().unwrap_err().number, 14);
+/// # Ok::<(), tainhosa::Refusal>(())
+/// ```
+#[derive(Debug)]
+pub struct Flash<'a> {
+    geometry: Geometry,
+    boot: &'a mut [u8],
+    update: &'a mut [u8],
+    swap: &'a mut [u8],
+}
+
+impl<'a> Flash<'a> {
+    /// The flash in these buffers.
+    ///
+    /// Refused with 1 unless BOOT and UPDATE have the length of a partition, and SWAP that of a sector.
+    pub fn new(geometry: Geometry, boot: &'a mut [u8], update: &'a mut [u8], swap: &'a mut [u8]) -> Result<Flash<'a>, Refusal> {
+        let fits = boot.len() == geometry.partition() && update.len() == geometry.partition() && swap.len() == geometry.size();
+        if fits {
+            Ok(Flash { geometry, boot, update, swap })
+        } else {
+            Err(Refusal::new(1, 0))
+        }
+    }
+
+    fn buffers(&mut self) -> Buffers<'_> {
+        Buffers { boot: self.boot, update: self.update, swap: self.swap }
+    }
+
+    /// The geometry.
+    pub fn geometry(&self) -> Geometry {
+        self.geometry
+    }
+
+    /// BOOT's bytes.
+    pub fn boot(&self) -> &[u8] {
+        self.boot
+    }
+
+    /// UPDATE's bytes.
+    pub fn update(&self) -> &[u8] {
+        self.update
+    }
+
+    /// BOOT's status.
+    pub fn boot_status(&self) -> Status {
+        Status::of(self.boot[self.geometry.partition() - 1])
+    }
+
+    /// UPDATE's status.
+    pub fn update_status(&self) -> Status {
+        Status::of(self.update[self.geometry.partition() - 1])
+    }
+
+    /// The flags of the firmware sectors, from sector 0 on.
+    pub fn flags(&self) -> Vec<Flag> {
+        let flag = |i: usize| {
+            let byte = self.update[self.geometry.partition() - 2 - i / 2];
+            Flag::of(if i % 2 == 0 { byte & 0xF } else { byte >> 4 })
+        };
+        (0..self.geometry.firmware_sectors()).map(flag).collect()
+    }
+
+    /// Arms the update in UPDATE, for the next power-up to take or turn down. The operations done: 2.
+    ///
+    /// Refused with 10 or 14; then no byte changes.
+    pub fn arm(&mut self) -> Result<u64, Refusal> {
+        let (sectors, size) = (self.geometry.sectors, self.geometry.size);
+        let mut count = [0];
+        let answer = raw::arm(sectors, size, self.buffers(), &mut count);
+        counted(answer, count)
+    }
+
+    /// What is to be done when power comes on. Where power is lost in between, the next one goes on from what the flash shows.
+    pub fn power_up(&mut self) -> PowerUp {
+        self.power_up_within(u64::MAX)
+    }
+
+    /// The same with at most so many operations: for tests, which see in it a loss of power.
+    pub fn power_up_within(&mut self, budget: u64) -> PowerUp {
+        let (sectors, size) = (self.geometry.sectors, self.geometry.size);
+        let mut row = [0; 6];
+        let answer = raw::power_up(sectors, size, self.buffers(), budget, &mut row);
+        PowerUp::of(answer, row)
+    }
+
+    /// Keeps the image that runs on test. The operations done: 1.
+    ///
+    /// Refused with 10, 14 or 11; then no byte changes.
+    pub fn confirm(&mut self) -> Result<u64, Refusal> {
+        let (sectors, size) = (self.geometry.sectors, self.geometry.size);
+        let mut count = [0];
+        let answer = raw::confirm(sectors, size, self.buffers(), &mut count);
+        counted(answer, count)
+    }
+}
+
+fn counted(answer: u32, count: [u64; 1]) -> Result<u64, Refusal> {
+    match answer {
+        0 => Ok(count[0]),
+        number => Err(Refusal::new(number, 0)),
+    }
+}
