@@ -6,6 +6,7 @@ use mathlib.Core.List.{List, [], _∷_}
 use Prim.Native.Nat.{ℕ, zero, suc, _+_, _≤_, _<_}
 use native.Mathlib.Decide.{ℕ-discrete}
 use native.Mathlib.Omega.{arith}
+use Rattle.numbers.proofs.Tests.{both}
 use Rattle.flash.specs.declared.Geometry.{Geometry}
 use Rattle.flash.specs.declared.SectorNumber.{SectorNumber}
 use Rattle.flash.specs.Sizes.{firmware}
@@ -46,10 +47,6 @@ is-untouched (Known Saved) e = absurd (let z : _≡_ {A = ℕ} 0 1 = cc in omega
 is-untouched (Known Moved) e = absurd (let z : _≡_ {A = ℕ} 0 1 = cc in omega arith)
 is-untouched (Known Exchanged) e = absurd (let z : _≡_ {A = ℕ} 0 1 = cc in omega arith)
 is-untouched Unknown e = absurd (let z : _≡_ {A = ℕ} 0 1 = cc in omega arith)
-
-both : (a b : Bool) → a && b ≡ true → (a ≡ true) × (b ≡ true)
-both true b e = (refl, e)
-both false b e = absurd (let z : _≡_ {A = ℕ} 0 1 = cc in omega arith)
 
 each-from : (g : Geometry) (u : List ℕ) (k i : ℕ) → allF (flagsFrom g u k i) ≡ true → (j : ℕ) → i ≤ j → j < i + k → flagAt g u j ≡ Known Untouched
 unfolding allF flagsFrom

@@ -8,6 +8,7 @@ use native.Mathlib.Decide.{decLt, ℕ-discrete}
 use lib.ListN.{length, getD, drop}
 use lib.Dec.{ltb, lit<}
 use borrow.Author.Tests.{ltb-true}
+use Rattle.numbers.proofs.Tests.{both}
 use Rattle.numbers.specs.Answer.{Answer, gives, refused}
 use Rattle.header_tags.specs.Bytes.{fieldBytes}
 use Rattle.header_reader.specs.declared.Header.{Header}
@@ -70,10 +71,6 @@ when-writer-refuses v out = go (decLt (length out) 256) (ℕ-discrete (v .size) 
 abbrev allBytes : List ℕ → Bool
 allBytes [] = true
 allBytes (b ∷ l) = ltb b 256 && allBytes l
-
-both : (a b : Bool) → a && b ≡ true → (a ≡ true) × (b ≡ true)
-both true b e = (refl, e)
-both false b e = absurd (let z : _≡_ {A = ℕ} 0 1 = cc in omega arith)
 
 all-bytes : (l : List ℕ) → allBytes l ≡ true → Bytes l
 all-bytes [] e i = lit< tt

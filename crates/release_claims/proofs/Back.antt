@@ -12,7 +12,7 @@ use Rattle.numbers.specs.Answer.{Answer, gives, then}
 use Rattle.numbers.specs.Every.{Every}
 use Rattle.listing_lines.specs.Lines.{line}
 use Rattle.release_values.specs.declared.Stated.{Stated}
-use Rattle.release_digits.proofs.Laws.{first-of, second-of}
+use Rattle.numbers.proofs.Tests.{first-of, second-of}
 use Rattle.header_tags.specs.Bytes.{same}
 use Rattle.release_lines.specs.Lines.{inFront, lines, names, noHint, isHint, wellFormed}
 use Rattle.release_places.specs.Judging.{Seen}

@@ -13,7 +13,8 @@ use Rattle.io.specs.Digits.{glyph, digits}
 use Rattle.listing_lines.specs.Lines.{digitCount, decimal as decimalText}
 use Rattle.listing_lines.proofs.Numbers.{fewest-digits}
 use Rattle.release_digits.specs.Digits.{isDigit, allDigits, numberFrom, decimal, decimalUpTo, hexDigit, allHex, hexDigits, hexBytes}
-use Rattle.release_digits.proofs.Laws.{both, first-of, second-of, inside, not-above, is-digit}
+use Rattle.numbers.proofs.Tests.{first-of, second-of}
+use Rattle.release_digits.proofs.Laws.{both, inside, not-above, is-digit}
 use Rattle.header_tags.specs.Bytes.{same}
 use Rattle.release_lines.specs.Lines.{noHint}
 use Rattle.header_tags.proofs.Same.{same-true}

@@ -6,7 +6,7 @@ use mathlib.Core.Bool.{Bool, true, _&&_, true≢false}
 use lib.Dec.{ltb, lit<}
 use borrow.Author.Tests.{ltb-true}
 use Rattle.numbers.specs.Every.{Every}
-use Rattle.release_digits.proofs.Laws.{first-of, second-of}
+use Rattle.numbers.proofs.Tests.{first-of, second-of}
 use Rattle.bytes.specs.Bytes.{indexOf, indexAfter}
 use Rattle.release_digits.specs.Digits.{allDigits, numberFrom, allHex, hexBytes}
 use Rattle.header_tags.specs.Bytes.{same}

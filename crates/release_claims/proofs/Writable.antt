@@ -9,7 +9,7 @@ use lib.Dec.{ltb, leb, lit<}
 use borrow.Author.Tests.{ltb-true, leb-true, not-false}
 use Rattle.numbers.specs.Every.{Every}
 use Rattle.release_digits.specs.Digits.{allDigits, decimal, decimalUpTo, hexDigit, allHex, hexDigits, hexBytes}
-use Rattle.release_digits.proofs.Laws.{first-of, second-of}
+use Rattle.numbers.proofs.Tests.{first-of, second-of}
 use Rattle.header_tags.specs.Bytes.{same}
 use Rattle.release_lines.specs.Lines.{noHint, isHint}
 use Rattle.release_sheet.specs.Reading.{valueIn, hintBytes}

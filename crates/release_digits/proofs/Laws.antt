@@ -9,6 +9,7 @@ use lib.ListN.{length, getD, take, drop, set, drop-of-length-le}
 use lib.Seq.{drop-cons, take-suc-set, take-all}
 use lib.Dec.{ltb, leb}
 use borrow.Author.Tests.{lt-ltb, le-leb, lt-leb, leb-true, leb-false, ltb-true}
+use Rattle.numbers.proofs.Tests.{first-of, second-of}
 use Rattle.release_digits.specs.declared.Parsed.{Parsed}
 use Rattle.release_digits.specs.Digits.{between, isDigit, allDigits, numberFrom, decimal, decimalUpTo, hexDigit, allHex, hexBytes, Decimals, Appends}
 
@@ -21,14 +22,6 @@ and-fails false e = refl
 
 pub both : {a b : Bool} → a ≡ true → b ≡ true → a && b ≡ true
 both p q = rw (p, q)
-
-pub first-of : (a b : Bool) → a && b ≡ true → a ≡ true
-first-of true b e = refl
-first-of false b e = e
-
-pub second-of : (a b : Bool) → a && b ≡ true → b ≡ true
-second-of true b e = e
-second-of false b e = absurd (true≢false (sym e))
 
 pub inside : (a b c : ℕ) → a ≤ c → c ≤ b → between a b c ≡ true
 inside a b c p q = rw (le-leb a c p, le-leb c b q)

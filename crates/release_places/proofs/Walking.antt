@@ -20,6 +20,7 @@ use Rattle.release_lines.specs.Lines.{lines, lineOf, lineSays, LineRead, types}
 use Rattle.release_lines.proofs.Reading.{searched}
 use Rattle.release_places.specs.declared.Places.{Places}
 use Rattle.release_places.specs.Judging.{Seen, keep, put, complete, judge, judged, restOfLine, valueAt, valuesAt, Finds}
+use Rattle.release_places.proofs.Along.{not-given}
 use Rattle.release_places.proofs.Cutting.{then-same, line-first, nothing-left, line-to, rest-of, map-set, zeros, missing-is}
 
 -- From the place `at` on, line number n, with the values at these places seen, it goes as from the start.
@@ -115,8 +116,9 @@ turned {text} {r} w says is =
     record {
       outcome = rw (w .0) (says (valuesAt text (r .places)) ∙ is);
       within = λ row. rw (w .1, zeros 5 row) (omega arith);
+      blank = λ n p e. w .1;
     }
 
 pub accepted : {text places : List ℕ} → gives (valuesAt text places) ≡ judged text → ((i : ℕ) → getD places i 0 ≤ length text)
     → Finds text (record { outcome = Accepted; places = places })
-accepted e w = record { outcome = e; within = w }
+accepted e w = record { outcome = e; within = w; blank = λ n p x. not-given (sym (e ∙ x)) }

@@ -59,7 +59,9 @@ valueAt text p = cond (eqb p 0) none (some (restOfLine text p))
 abbrev pub valuesAt : List ℕ → List ℕ → Seen
 valuesAt text places = map (λ p. valueAt text p) places
 
--- What a search for the values promises: its outcome, with the values at its places; and that these lie within the text.
+-- What a search for the values promises: its outcome, with the values at its places; that these lie within the text; and that beside a
+-- refusal they are blank, all 0.
 pub record Finds (text : List ℕ) (r : Places) : Type 0 where
   pub outcome : sheetAnswer (r .outcome) (valuesAt text (r .places)) ≡ judged text
   pub within : (row : ℕ) → getD (r .places) row 0 ≤ length text
+  pub blank : (n p : ℕ) → judged text ≡ refused n p → r .places ≡ replicate 5 0

@@ -1,32 +1,45 @@
--- From a release sheet and a firmware to a good image: the two calls, one behind the other. Proved in proofs/.
+-- From a release sheet and a firmware to a good image: two calls, one behind the other, by what their contracts say. Proved in proofs/.
 use mathlib.Core.Path.{_≡_}
 use Prim.Native.Nat.{ℕ, _^_, _≤_, _<_}
 use mathlib.Core.List.{List}
 use lib.ListN.{length, replicate}
-use Rattle.numbers.specs.Answer.{gives}
-use Rattle.release_values.specs.declared.Stated.{Stated}
+use Rattle.numbers.specs.declared.SheetOutcome.the-variants.{Accepted}
+use Rattle.numbers.specs.declared.WriteOutcome.{WriteOutcome}
+use Rattle.numbers.specs.GivenBack.{writerAnswer}
+use Rattle.header_writer.specs.Writing.{write}
 use Rattle.release_lines.specs.Lines.{lines}
-use Rattle.release_sheet.specs.Reading.{readSheet}
+use Rattle.release_sheet.specs.declared.SheetAnswer.{SheetAnswer}
+use Rattle.release_sheet.specs.Reading.{Reads}
 use Rattle.release_claims.specs.FromLines.{FromLines}
-use Rattle.release_claims.specs.Witness.{listed, listedValues}
+use Rattle.release_claims.specs.Witness.{listed}
 use Rattle.release_header.specs.Making.{makeHeader}
 use Rattle.release_round_trips.specs.Made.{MadeGood, exampleFirmware}
 
--- A text that is read as v, a firmware whose size four bytes can count, and an output with room for a header.
-pub record Released (text : List ℕ) (v : Stated) (firmware out : List ℕ) : Type 0 where
-  pub read : readSheet text ≡ gives v
+-- A call of `read_sheet` was lent the text, and a call of `make_header` its values, a firmware and the output `out`.
+pub record Released (text : List ℕ) (r : SheetAnswer) (firmware out : List ℕ) (o : WriteOutcome) (left : List ℕ) : Type 0 where
+  -- The first gave r, and accepted the sheet.
+  pub reads : Reads text r
+  pub accepted : r .outcome ≡ Accepted
+  -- The second answered o, and left these bytes of the output.
+  pub makes : write (writerAnswer o) left ≡ makeHeader (r .stated) firmware out
+  -- Four bytes can count the firmware, and the output has room for a header.
   pub some : 0 < length firmware
   pub countable : length firmware < 2 ^ 32
   pub room : 256 ≤ length out
 
 -- The image that is made is good, with the firmware's size and digest, and each other value is the one that stands on its line of the sheet.
-pub record ReleaseGood (text : List ℕ) (v : Stated) (firmware out : List ℕ) : Type 0 where
-  pub image : MadeGood (makeHeader v firmware out) v firmware out
-  pub lines : FromLines (lines text) v
+pub record ReleaseGood (text : List ℕ) (r : SheetAnswer) (firmware out : List ℕ) (o : WriteOutcome) (left : List ℕ) : Type 0 where
+  pub image : MadeGood (write (writerAnswer o) left) (r .stated) firmware out
+  pub stated : FromLines (lines text) (r .stated)
 
 abbrev pub SheetToImage : Type 0
-SheetToImage = (text : List ℕ) (v : Stated) (firmware out : List ℕ) → Released text v firmware out → ReleaseGood text v firmware out
+SheetToImage =
+    (text : List ℕ) (r : SheetAnswer) (firmware out : List ℕ) (o : WriteOutcome) (left : List ℕ)
+    → Released text r firmware out o left → ReleaseGood text r firmware out o left
 
 -- The premise can be met: by the sheet of 01's listing and a firmware of 256 bytes.
-abbrev pub SheetMet : Type 0
-SheetMet = Released listed listedValues exampleFirmware (replicate 256 0)
+pub record SheetMet : Type 0 where
+  pub answer : SheetAnswer
+  pub outcome : WriteOutcome
+  pub left : List ℕ
+  pub released : Released listed answer exampleFirmware (replicate 256 0) outcome left

@@ -16,7 +16,7 @@ use Rattle.release_values.specs.declared.Stated.{Stated}
 use Rattle.release_values.specs.Stated.{blank}
 use Rattle.release_digits.specs.declared.Parsed.{Parsed}
 use Rattle.release_digits.specs.Digits.{decimal, decimalUpTo, allDigits, allHex, hexDigits, hexBytes, Decimals}
-use Rattle.release_digits.proofs.Laws.{first-of, second-of}
+use Rattle.numbers.proofs.Tests.{first-of, second-of}
 use Rattle.header_tags.specs.Bytes.{same}
 use Rattle.release_lines.specs.Lines.{noHint, isHint}
 use Rattle.release_places.specs.declared.Places.{Places}

@@ -2,7 +2,8 @@ use native.Mathlib.Omega.{arith}
 use Prim.Native.Nat.{_+_, _-_, _*_, _≤_}
 use mathlib.Core.Path.{sym, _∙_}
 use lib.ListN.{length, getD}
-use Rattle.release_digits.proofs.Laws.{Read, nothing-read, one-read, refuses, all-read, none-read, first-of, second-of}
+use Rattle.numbers.proofs.Tests.{first-of, second-of}
+use Rattle.release_digits.proofs.Laws.{Read, nothing-read, one-read, refuses, all-read, none-read}
 use borrow.Author.Tests.{not-true, not-false, le-ltb, leb-true}
 use lib.Dec.{leb}
 use Rattle.release_digits.specs.Digits.{isDigit}
