@@ -14,7 +14,7 @@
 #include "common.h"
 #include "tainhosa.h"
 
-enum { STACK = 256 * 1024, PAINT = 0xA5, SECTORS = 64, SIZE = 4096, LENGTH = SECTORS * SIZE, STATUS = LENGTH - 1 };
+enum { STACK = 256 * 1024, PAINT = 0xA5, SECTORS = TAINHOSA_SECTORS_MAX, SIZE = 4096, LENGTH = SECTORS * SIZE, STATUS = LENGTH - 1 };
 
 static uint8_t stack[STACK];
 static ucontext_t here, there;

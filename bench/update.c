@@ -1,6 +1,7 @@
 /*
  * One update, armed before: tainhosa_power_up beside plain C that does the same checks, erases, copies and writes, in the same
- * buffers. The firmware fills its sectors. Fails if the two leave another flash.
+ * buffers. The firmware fills its sectors. Fails if the two leave another flash. With two words, the sectors of a partition and
+ * the bytes of a sector, it is done once and by the library alone, for a program that counts its instructions.
  */
 #include <stdio.h>
 #include <stdlib.h>
@@ -101,11 +102,9 @@ static void compare(void)
     free(done);
 }
 
-static void measure(size_t n, size_t s, bool each)
+/* Two images, the second one newer and armed. */
+static void prepare(size_t n, size_t s)
 {
-    action *const sides[] = {run_ours, run_plain};
-    double best[2];
-    char what[80];
     uint64_t count;
     sectors = n;
     size = s;
@@ -120,6 +119,14 @@ static void measure(size_t n, size_t s, bool each)
     if (tainhosa_arm(n, s, boot, length, update, length, swap, size, &count, 1) != TAINHOSA_OK) {
         fail("tainhosa_arm refused");
     }
+}
+
+static void measure(size_t n, size_t s, bool each)
+{
+    action *const sides[] = {run_ours, run_plain};
+    double best[2];
+    char what[80];
+    prepare(n, s);
     first_boot = room_for(length);
     first_update = room_for(length);
     first_swap = room_for(size);
@@ -142,10 +149,15 @@ static void measure(size_t n, size_t s, bool each)
     free(first_swap);
 }
 
-int main(void)
+int main(int words, char **word)
 {
+    if (words == 3) {
+        prepare(strtoul(word[1], NULL, 10), strtoul(word[2], NULL, 10));
+        run_ours();
+        return 0;
+    }
     measure(64, 131072, false);
-    for (size_t n = 2; n <= 64; n *= 2) {
+    for (size_t n = 2; n <= TAINHOSA_SECTORS_MAX; n *= 2) {
         measure(n, 4096, true);
     }
     return 0;

@@ -29,7 +29,7 @@ extern "C" {
 /* ---- The version of this interface, and its number: 10000 for each major, 100 for each minor */
 
 #define TAINHOSA_VERSION_MAJOR 0
-#define TAINHOSA_VERSION_MINOR 2
+#define TAINHOSA_VERSION_MINOR 3
 #define TAINHOSA_VERSION_PATCH 0
 #define TAINHOSA_VERSION_NUMBER (TAINHOSA_VERSION_MAJOR * 10000 + TAINHOSA_VERSION_MINOR * 100 + TAINHOSA_VERSION_PATCH)
 
@@ -201,10 +201,11 @@ TAINHOSA_CALL uint32_t tainhosa_make_header(uint8_t *out, size_t out_length,
 
 /*
  * A partition, BOOT or UPDATE, has `sectors` sectors of `size` bytes: an image from byte 0 on, and in its last sector the
- * trailer, whose last byte is the status. SWAP is one sector.
+ * trailer, whose last byte is the status. SWAP is one sector. The trailer, one byte and half a byte for each sector before
+ * it, rounded up, fits the last sector: 512 sectors of 256 bytes are refused with 1, 511 are taken.
  */
 #define TAINHOSA_SECTORS_MIN 2
-#define TAINHOSA_SECTORS_MAX 64
+#define TAINHOSA_SECTORS_MAX 512
 #define TAINHOSA_SIZE_UNIT 256        /* a sector's size is a multiple */
 #define TAINHOSA_SIZE_MIN 256
 #define TAINHOSA_SIZE_MAX 131072

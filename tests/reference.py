@@ -122,7 +122,9 @@ def listing(data):
 
 
 def geometry_fits(n, s):
-    return 2 <= n <= 64 and 256 <= s <= 131072 and s % 256 == 0
+    m = n - 1
+    trailer = 1 + (m // 2 if m % 2 == 0 else m // 2 + 1)
+    return 2 <= n <= 512 and 256 <= s <= 131072 and s % 256 == 0 and trailer <= s
 
 
 def check_image(n, s, partition):

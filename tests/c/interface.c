@@ -117,9 +117,9 @@ static size_t put_image(uint8_t *to, int firmware, uint32_t version) {
 
 static void constants(void) {
     EQUAL(TAINHOSA_VERSION_MAJOR, 0);
-    EQUAL(TAINHOSA_VERSION_MINOR, 2);
+    EQUAL(TAINHOSA_VERSION_MINOR, 3);
     EQUAL(TAINHOSA_VERSION_PATCH, 0);
-    EQUAL(TAINHOSA_VERSION_NUMBER, 200);
+    EQUAL(TAINHOSA_VERSION_NUMBER, 300);
     EQUAL(TAINHOSA_OK, 0);
     EQUAL(TAINHOSA_OUTSIDE_RULES, 1);
     EQUAL(TAINHOSA_WRONG_MAGIC, 2);
@@ -146,7 +146,7 @@ static void constants(void) {
     EQUAL(TAINHOSA_PADDING, 0xFF);
     EQUAL(TAINHOSA_TYPE_END, 0x0000);
     EQUAL(TAINHOSA_SECTORS_MIN, 2);
-    EQUAL(TAINHOSA_SECTORS_MAX, 64);
+    EQUAL(TAINHOSA_SECTORS_MAX, 512);
     EQUAL(TAINHOSA_SIZE_UNIT, 256);
     EQUAL(TAINHOSA_SIZE_MIN, 256);
     EQUAL(TAINHOSA_SIZE_MAX, 131072);
@@ -631,14 +631,21 @@ static void images(void) {
     EQUAL(length, 259);
     EQUAL(tainhosa_image_check(3, 256, large, 768, &header), TAINHOSA_OK);
     expect_values(&header, SHORT, 7, false);
-    EQUAL(tainhosa_check_image(TAINHOSA_SECTORS_MAX, TAINHOSA_SIZE_MIN, large, 64 * 256, numbers, 6, bytes, 128), TAINHOSA_OK);
+    EQUAL(tainhosa_check_image(TAINHOSA_SECTORS_MAX, 512, large, 512 * 512, numbers, 6, bytes, 128), TAINHOSA_OK);
     EQUAL(numbers[TAINHOSA_HEADER_VERSION], 7);
     from_hex(digest, fips[SHORT].digest);
     SAME(bytes + TAINHOSA_DIGEST_AT, digest, 32);
     EQUAL(tainhosa_image_check(TAINHOSA_SECTORS_MIN, TAINHOSA_SIZE_MAX, large, 2 * 131072, &header), TAINHOSA_OK);
     EQUAL(tainhosa_image_check(2, TAINHOSA_SIZE_MIN + TAINHOSA_SIZE_UNIT, large, 1024, &header), TAINHOSA_OK);
+    EQUAL(tainhosa_image_check(511, TAINHOSA_SIZE_MIN, large, 511 * 256, &header), TAINHOSA_OK);
     REFUSED_IMAGE(1, 256, large, 256, TAINHOSA_OUTSIDE_RULES, 0);
-    REFUSED_IMAGE(65, 256, large, 65 * 256, TAINHOSA_OUTSIDE_RULES, 0);
+    REFUSED_IMAGE(512, 256, large, 512 * 256, TAINHOSA_OUTSIDE_RULES, 0);
+    REFUSED_IMAGE(513, 256, large, 513 * 256, TAINHOSA_OUTSIDE_RULES, 0);
+    REFUSED_IMAGE(513, 512, large, 513 * 512, TAINHOSA_OUTSIDE_RULES, 0);
+    REFUSED_IMAGE(512, 512, large, 512 * 512 - 1, TAINHOSA_OUTSIDE_RULES, 0);
+    REFUSED_IMAGE(512, 512, large, 512 * 512 + 1, TAINHOSA_OUTSIDE_RULES, 0);
+    REFUSED_IMAGE(SIZE_MAX, SIZE_MAX, large, 1, TAINHOSA_OUTSIDE_RULES, 0);
+    REFUSED_IMAGE(SIZE_MAX / 256 + 3, 256, large, 512, TAINHOSA_OUTSIDE_RULES, 0);
     REFUSED_IMAGE(2, 384, large, 768, TAINHOSA_OUTSIDE_RULES, 0);
     REFUSED_IMAGE(2, TOO_LARGE, large, 2 * TOO_LARGE, TAINHOSA_OUTSIDE_RULES, 0);
     REFUSED_IMAGE(3, 256, large, 767, TAINHOSA_OUTSIDE_RULES, 0);
@@ -888,7 +895,7 @@ static void refusals(void) {
     NO_POWER_UP(TAINHOSA_NO_FALLBACK, TAINHOSA_TAG_MISSING, 0x0002);
 
     two_images(1, 2);
-    flash.sectors = 65;
+    flash.sectors = 513;
     NO_POWER_UP(TAINHOSA_OUTSIDE_RULES, 0, 0);
     flash = good;
     flash.size = 384;

@@ -1,9 +1,11 @@
 use crate::raw::{self, Buffers};
 use crate::{PowerUp, Refusal};
 use std::fmt;
+use std::ops::RangeInclusive;
 
-/// How many sectors a partition has, and how many bytes a sector. It is within the rules: 2 to 64 sectors; a size from 256 to 131,072
-/// that is a multiple of 256.
+/// How many sectors a partition has, and how many bytes a sector. It is within the rules: 2 to 512 sectors; a size from 256 to 131,072
+/// that is a multiple of 256; and the trailer, a status byte and half a byte for each sector before it, rounded up, fits one sector:
+/// 512 sectors of 256 bytes are refused, 511 are not.
 #[derive(Clone, Copy, Debug, PartialEq, Eq)]
 pub struct Geometry {
     sectors: usize,
@@ -11,12 +13,20 @@ pub struct Geometry {
 }
 
 impl Geometry {
+    /// The fewest sectors of a partition, and the most.
+    pub const SECTORS: RangeInclusive<usize> = 2..=512;
+    /// The fewest bytes of a sector, and the most.
+    pub const SIZES: RangeInclusive<usize> = 256..=131_072;
+    /// A sector's size is a multiple of it.
+    pub const SIZE_UNIT: usize = 256;
+
     /// The geometry of so many sectors of this size.
     ///
     /// Refused with 1 outside the rules.
     pub fn new(sectors: usize, size: usize) -> Result<Geometry, Refusal> {
-        let within = (2..=64).contains(&sectors) && (256..=131_072).contains(&size) && size % 256 == 0;
-        if within {
+        let within = Self::SECTORS.contains(&sectors) && Self::SIZES.contains(&size) && size % Self::SIZE_UNIT == 0;
+        // Half of the sectors before the trailer's, rounded up, is half of all, rounded down.
+        if within && 1 + sectors / 2 <= size {
             Ok(Geometry { sectors, size })
         } else {
             Err(Refusal::new(1, 0))

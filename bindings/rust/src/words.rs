@@ -42,8 +42,8 @@ pub const MEANINGS: [Meaning; 21] = [
         1,
         Place::Nothing,
         "the geometry or the length of a buffer is outside the rules",
-        "Give 2 to 64 sectors, and a sector's size from 256 to 131072 bytes that is a multiple of 256. BOOT and UPDATE have exactly \
-         sectors x size bytes, SWAP has size bytes.",
+        "Give 2 to 512 sectors, and a sector's size from 256 to 131072 bytes that is a multiple of 256; 512 sectors of 256 bytes are \
+         too many, since their trailer needs 257 bytes. BOOT and UPDATE have exactly sectors x size bytes, SWAP has size bytes.",
     ),
     row(
         2,

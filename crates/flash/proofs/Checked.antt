@@ -1,54 +1,34 @@
 -- What the tests of a geometry and of the lengths say, as facts, and the other way round.
-use mathlib.Core.Path.{_≡_, refl, sym, ap, _∙_}
-use mathlib.Core.Bool.{Bool, true, false, _&&_}
+use mathlib.Core.Path.{_≡_, sym, ap, _∙_}
+use mathlib.Core.Bool.{true, _&&_}
 use mathlib.Core.List.{List}
-use Prim.Native.Nat.{ℕ, suc, _+_, _*_, _%_, _≤_, _<_}
+use Prim.Native.Nat.{ℕ, suc, _+_, _*_, _≤_, _<_}
 use native.Mathlib.Nat.{mul-le-mul, mul-le-mul-right, suc-mul, le-of-mul-le-mul-right}
 use native.Mathlib.Omega.{arith}
 use lib.ListN.{length}
-use lib.Dec.{leb, eqb}
-use borrow.Author.Tests.{leb-true, eqb-true, eq-eqb}
+use lib.Dec.{eqb}
+use borrow.Author.Tests.{eqb-true, eq-eqb}
+use Rattle.numbers.proofs.Tests.{first-of, second-of}
 use Rattle.flash.specs.declared.Geometry.{Geometry}
-use Rattle.flash.specs.Sizes.{firmware, partitionSize, withinLimits, Limits}
+use Rattle.flash.specs.Sizes.{firmware, partitionSize, mostSectors, largestSize, withinLimits, Limits}
 use Rattle.flash.specs.Sectors.{Partition}
 use Rattle.flash.specs.Buffers.{Flash, partitionFits, fits, Shaped}
-use Rattle.flash.proofs.Taken.{tests-hold}
-
-and-left : (a b : Bool) → a && b ≡ true → a ≡ true
-and-left true b e = refl
-and-left false b e = e
-
-and-right : (a b : Bool) → a && b ≡ true → b ≡ true
-and-right true b e = e
-and-right false b e = absurd (let z : _≡_ {A = ℕ} 0 1 = cc in omega arith)
+use Rattle.flash.proofs.Taken.{tests-hold, rules-hold}
 
 -- ---- a geometry
 
 pub limits-of : (g : Geometry) → withinLimits g ≡ true → Limits g
-unfolding withinLimits firmware
 limits-of g h =
-    let a = leb 2 (g .sectors) in
-    let b = leb (g .sectors) 64 in
-    let c = leb 256 (g .size) in
-    let d = leb (g .size) 131072 in
-    let e = eqb (g .size % 256) 0 in
-    let h₄ = and-left (a && b && c && d) e h in
-    let h₃ = and-left (a && b && c) d h₄ in
-    let h₂ = and-left (a && b) c h₃ in
-    let n : g .sectors ≤ 64 = leb-true (g .sectors) 64 (and-right a b h₂) in
-    let s : 256 ≤ g .size = leb-true 256 (g .size) (and-right (a && b) c h₃) in
-    record {
-      few = leb-true 2 (g .sectors) (and-left a b h₂);
-      many = n;
-      small = s;
-      large = leb-true (g .size) 131072 (and-right (a && b && c) d h₄);
-      unit = eqb-true (g .size % 256) 0 (and-right (a && b && c && d) e h);
-      trailer = omega arith;
-    }
+    let w = rules-hold g h in
+    let c = w .counts in
+    record { few = c .few; many = c .many; small = c .small; large = c .large; unit = c .unit; trailer = w .trailer }
 
 pub limits-within : (g : Geometry) → Limits g → withinLimits g ≡ true
 limits-within g G =
-    tests-hold g (record { unit = G .unit; small = G .small; large = G .large; few = G .few; many = G .many })
+    tests-hold g (record {
+      counts = record { unit = G .unit; small = G .small; large = G .large; few = G .few; many = G .many };
+      trailer = G .trailer;
+    })
 
 -- n is m + 1
 pub sectors-are : (g : Geometry) → Limits g → g .sectors ≡ suc (firmware g)
@@ -63,7 +43,7 @@ some-firmware g G = omega (arith, G .few)
 pub size-split : (g : Geometry) → Limits g → partitionSize g ≡ firmware g * g .size + g .size
 size-split g G = ap (λ (n : ℕ). n * g .size) (sectors-are g G) ∙ suc-mul (firmware g) (g .size)
 
-pub size-small : (g : Geometry) → Limits g → partitionSize g ≤ 64 * 131072
+pub size-small : (g : Geometry) → Limits g → partitionSize g ≤ mostSectors * largestSize
 size-small g G = mul-le-mul (G .many) (G .large)
 
 -- sector i ends within the partition, before any later sector begins
@@ -75,8 +55,8 @@ sector-end s i j h = rw suc-mul at (mul-le-mul-right {m = suc i} {n = j} s h)
 pub partition-of : (g : Geometry) (l : List ℕ) → partitionFits g l ≡ true → Partition g l
 unfolding partitionFits
 partition-of g l h = record {
-  limits = limits-of g (and-left (withinLimits g) (eqb (length l) (partitionSize g)) h);
-  whole = eqb-true (length l) (partitionSize g) (and-right (withinLimits g) (eqb (length l) (partitionSize g)) h);
+  limits = limits-of g (first-of (withinLimits g) (eqb (length l) (partitionSize g)) h);
+  whole = eqb-true (length l) (partitionSize g) (second-of (withinLimits g) (eqb (length l) (partitionSize g)) h);
 }
 
 pub partition-fits : (g : Geometry) (l : List ℕ) → Partition g l → partitionFits g l ≡ true
@@ -88,13 +68,13 @@ unfolding fits
 shaped-of g f h =
     let u = eqb (length (f .update)) (partitionSize g) in
     let s = eqb (length (f .swap)) (g .size) in
-    let k = and-left (partitionFits g (f .boot) && u) s h in
-    let b : Partition g (f .boot) = partition-of g (f .boot) (and-left (partitionFits g (f .boot)) u k) in
+    let k = first-of (partitionFits g (f .boot) && u) s h in
+    let b : Partition g (f .boot) = partition-of g (f .boot) (first-of (partitionFits g (f .boot)) u k) in
     record {
       limits = b .limits;
       boot = b .whole;
-      update = eqb-true (length (f .update)) (partitionSize g) (and-right (partitionFits g (f .boot)) u k);
-      swap = eqb-true (length (f .swap)) (g .size) (and-right (partitionFits g (f .boot) && u) s h);
+      update = eqb-true (length (f .update)) (partitionSize g) (second-of (partitionFits g (f .boot)) u k);
+      swap = eqb-true (length (f .swap)) (g .size) (second-of (partitionFits g (f .boot) && u) s h);
     }
 
 pub boot-partition : (g : Geometry) (f : Flash) → Shaped g f → Partition g (f .boot)

@@ -1,67 +1,102 @@
 -- Which geometries are taken. Assumes nothing.
 use mathlib.Core.Path.{_≡_, refl, sym, ap, _∙_}
-use mathlib.Core.Bool.{Bool, true, false, _&&_}
-use Prim.Native.Nat.{ℕ, _%_, _≤_}
+use mathlib.Core.Bool.{Bool, true, false, true≢false}
+use Prim.Native.Nat.{ℕ, _<_}
+use native.Mathlib.Decide.{decLt}
 use native.Mathlib.Omega.{arith}
-use lib.Dec.{leb, eqb, lit≤}
-use borrow.Author.Tests.{leb-true, leb-false, eqb-true, eqb-false, le-leb, eq-eqb}
+use borrow.Author.Tests.{leb-true, eqb-true, le-leb, eq-eqb}
 use Rattle.numbers.specs.Answer.{Answer, gives, refused}
+use Rattle.numbers.proofs.Tests.{both}
 use Rattle.flash.specs.declared.Geometry.{Geometry}
-use Rattle.flash.specs.Sizes.{geometry, withinLimits, geometryWhere, geometryOf}
-use Rattle.flash.specs.Taken.{InRules, GeometryTaken, WhichAreTaken, SomeAreTaken}
+use Rattle.flash.specs.declared.GeometryAnswer.the-variants.{Fits, Outside}
+use Rattle.flash.specs.Sizes.{geometry, firmware, trailerLength, withinLimits, geometryAnswer, geometryWhere, geometryOf}
+use Rattle.flash.specs.Taken.{InRules, GeometryTaken, WhichAreTaken, TakenBefore, SomeAreTaken, SomeAreRefused, OnlyOneTooLong, TrailersNeed}
 
 -- an answer gives or refuses
 given-refused : {A : Type 0} {g : Geometry} {n p : ℕ} {a : Answer Geometry} → a ≡ gives g → a ≡ refused n p → A
 given-refused x y = let z : _≡_ {A = ℕ} 0 1 = cc in absurd (omega arith)
 
--- the tests hold of what is within the rules
+-- the tests hold of what is within the rules, and of nothing else
 pub tests-hold : (g : Geometry) → InRules (g .sectors) (g .size) → withinLimits g ≡ true
 unfolding withinLimits
-tests-hold g w = simp (le-leb _ _ (w .few), le-leb _ _ (w .many), le-leb _ _ (w .small), le-leb _ _ (w .large), eq-eqb _ _ (w .unit))
+tests-hold g w =
+    let c = w .counts in
+    simp (le-leb _ _ (c .few), le-leb _ _ (c .many), le-leb _ _ (c .small), le-leb _ _ (c .large), eq-eqb _ _ (c .unit), le-leb _ _ (w .trailer))
+
+pub rules-hold : (g : Geometry) → withinLimits g ≡ true → InRules (g .sectors) (g .size)
+unfolding withinLimits
+rules-hold g h =
+    let t = both _ _ h in
+    let u = both _ _ (t .0) in
+    let l = both _ _ (u .0) in
+    let s = both _ _ (l .0) in
+    let n = both _ _ (s .0) in
+    record {
+      counts = record {
+        unit = eqb-true _ _ (u .1);
+        small = leb-true _ _ (s .1);
+        large = leb-true _ _ (l .1);
+        few = leb-true _ _ (n .0);
+        many = leb-true _ _ (n .1);
+      };
+      trailer = leb-true _ _ (t .1);
+    }
 
 module _ (n s : ℕ) where
-  within-rules : InRules n s → geometryOf n s ≡ gives (geometry n s)
+  taken-or-not : (b : Bool) → withinLimits (geometry n s) ≡ b → GeometryTaken n s
   unfolding geometryOf
-  within-rules w = ap (λ (b : Bool). geometryWhere b n s) (tests-hold (geometry n s) w)
-
-  both : InRules n s → GeometryTaken n s
-  both w =
-      let e = within-rules w in
+  taken-or-not true h =
+      let w = rules-hold (geometry n s) h in
+      let e = ap (λ (b : Bool). geometryWhere b n s) h in
       record { taken = (λ x. w, λ x. e); refusal = (λ x. given-refused e x, λ x. absurd (x w)) }
-
-  neither : (InRules n s → ⊥) → geometryOf n s ≡ refused 1 0 → GeometryTaken n s
-  neither d e = record { taken = (λ x. given-refused x e, λ w. absurd (d w)); refusal = (λ x. d, λ x. e) }
-
-  by-tests : (a b c d e : Bool) → leb 2 n ≡ a → leb n 64 ≡ b → leb 256 s ≡ c → leb s 131072 ≡ d → eqb (s % 256) 0 ≡ e → GeometryTaken n s
-  unfolding geometryOf withinLimits
-  by-tests false b c d e p q r t u =
-      let x = leb-false 2 n p in
-      neither (λ w. omega (arith, w .few)) (rw p)
-  by-tests true false c d e p q r t u =
-      let x = leb-false n 64 q in
-      neither (λ w. omega (arith, w .many)) (rw (p, q))
-  by-tests true true false d e p q r t u =
-      let x = leb-false 256 s r in
-      neither (λ w. omega (arith, w .small)) (rw (p, q, r))
-  by-tests true true true false e p q r t u =
-      let x = leb-false s 131072 t in
-      neither (λ w. omega (arith, w .large)) (rw (p, q, r, t))
-  by-tests true true true true false p q r t u = neither (λ w. eqb-false _ _ u (w .unit)) (rw (p, q, r, t, u))
-  by-tests true true true true true p q r t u =
-      both (record {
-        unit = eqb-true _ _ u;
-        small = leb-true _ _ r;
-        large = leb-true _ _ t;
-        few = leb-true _ _ p;
-        many = leb-true _ _ q;
-      })
+  taken-or-not false h =
+      let d : InRules n s → ⊥ = λ w. true≢false (sym (tests-hold (geometry n s) w) ∙ h) in
+      let e = ap (λ (b : Bool). geometryWhere b n s) h in
+      record { taken = (λ x. given-refused x e, λ w. absurd (d w)); refusal = (λ x. d, λ x. e) }
 
 pub which-are-taken : WhichAreTaken
-which-are-taken n s = by-tests n s (leb 2 n) (leb n 64) (leb 256 s) (leb s 131072) (eqb (s % 256) 0) refl refl refl refl refl
+which-are-taken n s = taken-or-not n s (withinLimits (geometry n s)) refl
+
+-- the same of the code's answer
+pub inside : (n s : ℕ) → InRules n s → geometryAnswer (Fits (geometry n s)) ≡ geometryOf n s
+inside n s w = sym (which-are-taken n s .taken .1 w)
+
+pub outside : (n s : ℕ) → (InRules n s → ⊥) → geometryAnswer Outside ≡ geometryOf n s
+outside n s d = sym (which-are-taken n s .refusal .1 d)
+
+pub taken-before : TakenBefore
+unfolding firmware
+taken-before n s c = record {
+  counts = record { unit = c .unit; small = c .small; large = c .large; few = c .few; many = omega (arith, c .many) };
+  trailer = omega (arith, c .many, c .small);
+}
+
+-- by doing the tests
+pub tested : (n s : ℕ) → geometryOf n s ≡ gives (geometry n s) → InRules n s
+tested n s e = which-are-taken n s .taken .0 e
 
 pub some-are-taken : SomeAreTaken
-some-are-taken = (
-  record { unit = refl; small = lit≤ tt; large = lit≤ tt; few = lit≤ tt; many = lit≤ tt },
-  record { unit = refl; small = lit≤ tt; large = lit≤ tt; few = lit≤ tt; many = lit≤ tt },
-  record { unit = refl; small = lit≤ tt; large = lit≤ tt; few = lit≤ tt; many = lit≤ tt },
-)
+unfolding geometryOf withinLimits firmware
+some-are-taken = (tested 2 256 refl, tested 3 768 refl, tested 511 256 refl, tested 512 512 refl, tested 512 131072 refl)
+
+pub some-are-refused : SomeAreRefused
+unfolding firmware
+some-are-refused = record {
+  many = λ w. omega (arith, w .counts .many);
+  unit = λ w. omega (arith, w .counts .unit);
+  few = λ w. omega (arith, w .counts .few);
+  large = λ w. omega (arith, w .counts .large);
+  trailer = λ w. omega (arith, w .trailer);
+}
+
+pub trailers-need : TrailersNeed
+unfolding firmware
+trailers-need s = (refl, refl)
+
+pub only-one-too-long : OnlyOneTooLong
+unfolding firmware
+only-one-too-long n s c = (λ out. by-trailer out (decLt s (trailerLength (geometry n s))), λ e w. omega (arith, e .0, e .1, w .trailer))
+  where
+    by-trailer : (InRules n s → ⊥) → Dec (s < trailerLength (geometry n s)) → (n ≡ 512) × (s ≡ 256)
+    by-trailer out (yes t) = omega (arith, t, c .unit, c .small, c .many, c .few)
+    by-trailer out (no t) = absurd (out (record { counts = c; trailer = omega arith }))

@@ -5,7 +5,7 @@ use Prim.Native.Nat.{ℕ, _+_, _*_, _≤_}
 use lib.ListN.{length, take, drop, replicate}
 use Rattle.flash.specs.declared.Geometry.{Geometry}
 use Rattle.flash.specs.declared.SectorNumber.{SectorNumber}
-use Rattle.flash.specs.Sizes.{Limits, firmware, partitionSize}
+use Rattle.flash.specs.Sizes.{Limits, firmware, partitionSize, mostSectors, largestSize}
 
 abbrev pub sectorNumber : ℕ → SectorNumber
 sectorNumber i = record { 0 = i }
@@ -15,11 +15,11 @@ pub record Partition (g : Geometry) (l : List ℕ) : Type 0 where
   pub limits : Limits g
   pub whole : length l ≡ partitionSize g
 
--- `at` is the byte offset of sector i, which ends within the partition; the partition has 8 MiB at most
+-- `at` is the byte offset of sector i, which ends within the partition; the partition has 64 MiB at most
 pub record SectorAt (g : Geometry) (i at : ℕ) : Type 0 where
   pub is : at ≡ i * g .size
   pub within : at + g .size ≤ partitionSize g
-  pub small : partitionSize g ≤ 64 * 131072
+  pub small : partitionSize g ≤ mostSectors * largestSize
 
 -- the s bytes of l from place a on
 unfoldable pub part : ℕ → ℕ → List ℕ → List ℕ

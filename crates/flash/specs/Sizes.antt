@@ -1,4 +1,4 @@
--- Document 01, "The flash": the geometry of a partition and its limits.
+-- Document 01, "The flash": the geometry of a partition and its limits; document 02, "More sectors": as many as 512.
 use mathlib.Core.Path.{_≡_}
 use mathlib.Core.Bool.{Bool, cond, _&&_}
 use Prim.Native.Nat.{ℕ, _+_, _-_, _*_, _/_, _%_, _≤_}
@@ -24,18 +24,26 @@ partitionSize g = g .sectors * g .size
 abbrev pub trailerLength : Geometry → ℕ
 trailerLength g = 1 + (firmware g + 1) / 2
 
--- the limits: 2 to 64 sectors, of 256 to 131,072 bytes in steps of 256
+-- the most sectors that a partition may have, and the most bytes that a sector may
+abbrev pub mostSectors : ℕ
+mostSectors = 512
+
+abbrev pub largestSize : ℕ
+largestSize = 131072
+
+-- the limits: 2 to `mostSectors` sectors, of 256 to `largestSize` bytes in steps of 256, and the trailer fits one sector
 unfoldable pub withinLimits : Geometry → Bool
-withinLimits g = leb 2 (g .sectors) && leb (g .sectors) 64 && leb 256 (g .size) && leb (g .size) 131072 && eqb (g .size % 256) 0
+withinLimits g =
+    leb 2 (g .sectors) && leb (g .sectors) mostSectors && leb 256 (g .size) && leb (g .size) largestSize && eqb (g .size % 256) 0
+    && leb (trailerLength g) (g .size)
 
 -- the same as facts, which the functions on a checked geometry require
 pub record Limits (g : Geometry) : Type 0 where
   pub few : 2 ≤ g .sectors
-  pub many : g .sectors ≤ 64
+  pub many : g .sectors ≤ mostSectors
   pub small : 256 ≤ g .size
-  pub large : g .size ≤ 131072
+  pub large : g .size ≤ largestSize
   pub unit : g .size % 256 ≡ 0
-  -- the trailer fits one sector, which follows from the other limits
   pub trailer : trailerLength g ≤ g .size
 
 -- the geometry of n sectors of s bytes where the rules hold; what is outside them is refusal 1

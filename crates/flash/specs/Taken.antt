@@ -1,17 +1,22 @@
--- Document 01, "The flash": which geometries are taken. Proved in proofs/.
+-- Document 01, "The flash", and document 02, "More sectors": which geometries are taken. Proved in proofs/.
 use mathlib.Core.Path.{_≡_}
 use mathlib.Core.Logic.{_↔_}
 use Prim.Native.Nat.{ℕ, _%_, _≤_}
 use Rattle.numbers.specs.Answer.{gives, refused}
-use Rattle.flash.specs.Sizes.{geometry, geometryOf}
+use Rattle.flash.specs.Sizes.{geometry, trailerLength, mostSectors, geometryOf}
 
--- The steps and the ends of S, and the ends of n.
-pub record InRules (n s : ℕ) : Type 0 where
+-- The steps and the ends of S, and the ends of n, where n may be as much as `most`.
+pub record UpTo (most n s : ℕ) : Type 0 where
   pub unit : s % 256 ≡ 0
   pub small : 256 ≤ s
   pub large : s ≤ 131072
   pub few : 2 ≤ n
-  pub many : n ≤ 64
+  pub many : n ≤ most
+
+-- The rules: n may be as much as `mostSectors`, and the trailer has to fit one sector.
+pub record InRules (n s : ℕ) : Type 0 where
+  pub counts : UpTo mostSectors n s
+  pub trailer : trailerLength (geometry n s) ≤ s
 
 -- A geometry is taken exactly if it is within the rules, and is refusal 1 exactly if it is not. What is taken is what was asked for.
 pub record GeometryTaken (n s : ℕ) : Type 0 where
@@ -21,6 +26,27 @@ pub record GeometryTaken (n s : ℕ) : Type 0 where
 abbrev pub WhichAreTaken : Type 0
 WhichAreTaken = (n s : ℕ) → GeometryTaken n s
 
--- Some are: the smallest, one whose S is no power of two, and the largest.
+-- Every geometry of document 01, which stopped at 64 sectors and had no rule for the trailer, is still taken.
+abbrev pub TakenBefore : Type 0
+TakenBefore = (n s : ℕ) → UpTo 64 n s → InRules n s
+
+-- Some are: the smallest, one whose S is no power of two, one whose trailer fills its sector, the most sectors of case 12, the largest.
 abbrev pub SomeAreTaken : Type 0
-SomeAreTaken = InRules 2 256 × InRules 3 768 × InRules 64 131072
+SomeAreTaken = InRules 2 256 × InRules 3 768 × InRules 511 256 × InRules 512 512 × InRules 512 131072
+
+-- Some are not: too many sectors in case 12, a sector of 384 bytes, one sector alone, a sector that is too large, and a trailer of one byte
+-- too many.
+pub record SomeAreRefused : Type 0 where
+  pub many : InRules 513 512 → ⊥
+  pub unit : InRules 512 384 → ⊥
+  pub few : InRules 1 512 → ⊥
+  pub large : InRules 2 131328 → ⊥
+  pub trailer : InRules 512 256 → ⊥
+
+-- Of the geometries within the other limits the trailer's rule refuses one, and it alone: 512 sectors of 256 bytes.
+abbrev pub OnlyOneTooLong : Type 0
+OnlyOneTooLong = (n s : ℕ) → UpTo mostSectors n s → (InRules n s → ⊥) ↔ ((n ≡ 512) × (s ≡ 256))
+
+-- Document 02's own numbers: 512 sectors need 257 bytes of trailer, 511 need 256, whatever their size.
+abbrev pub TrailersNeed : Type 0
+TrailersNeed = (s : ℕ) → (trailerLength (geometry 512 s) ≡ 257) × (trailerLength (geometry 511 s) ≡ 256)

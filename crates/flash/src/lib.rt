@@ -28,7 +28,7 @@ pub enum GeometryAnswer {
 impl Geometry {
     pub const MIN_SECTORS: usize = 2;
 
-    pub const MAX_SECTORS: usize = 64;
+    pub const MAX_SECTORS: usize = 512;
 
     pub const MIN_SIZE: usize = 256;
 
@@ -52,6 +52,11 @@ impl Geometry {
             return GeometryAnswer::Outside;
         }
         if size % Geometry::SIZE_UNIT != 0 {
+            return GeometryAnswer::Outside;
+        }
+        // The trailer fits one sector: a status byte, and half a byte for each firmware sector, rounded up.
+        let m = sectors - 1;
+        if size < 1 + (m + 1) / 2 {
             return GeometryAnswer::Outside;
         }
         GeometryAnswer::Fits(Geometry { sectors, size })

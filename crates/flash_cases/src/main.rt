@@ -1,4 +1,5 @@
-// Prints what the flash answers in document 01's marked cases 11 and 12 and around them, and what flag bytes show.
+// Prints what the flash answers in document 01's marked cases 11 and 12, the latter as document 02 has it, and around them, and what flag
+// bytes show.
 use flash::Geometry;
 use flash::GeometryAnswer;
 use flash_flags::Flags;
@@ -37,9 +38,10 @@ fn geometry(n: usize, size: usize) {
     print_geometry(Geometry::new(n, size));
 }
 
-fn four_sizes(n: usize) {
+fn sizes(n: usize) {
     geometry(n, 256);
     geometry(n, 384);
+    geometry(n, 512);
     geometry(n, 131072);
     geometry(n, 131328);
 }
@@ -82,8 +84,20 @@ fn other_lengths(s: &[u8]) {
 fn geometries_of_buffers(s: &[u8]) {
     sized(s, 3, 256, 512, 512, 256);
     sized(s, 3, 256, 768, 768, 256);
-    sized(s, 65, 256, 512, 512, 256);
+    sized(s, 513, 256, 131328, 131328, 256);
     sized(s, 2, 384, 768, 768, 384);
+    sized(s, 512, 256, 131072, 131072, 256);
+    sized(s, 72057594037927938, 256, 512, 512, 256);
+}
+
+fn most_sectors(s: &[u8]) {
+    sized(s, 512, 512, 262144, 262144, 512);
+    sized(s, 512, 512, 262143, 262144, 512);
+    sized(s, 512, 512, 262145, 262144, 512);
+    sized(s, 512, 512, 262144, 262143, 512);
+    sized(s, 512, 512, 262144, 262145, 512);
+    sized(s, 512, 512, 262144, 262144, 511);
+    sized(s, 512, 512, 262144, 262144, 513);
 }
 
 fn partition(n: usize, size: usize, s: &[u8]) {
@@ -98,6 +112,10 @@ fn partitions(s: &[u8]) {
     partition(2, 256, first(s, 511));
     partition(2, 256, first(s, 513));
     partition(1, 256, first(s, 256));
+    partition(511, 256, first(s, 130816));
+    partition(511, 256, first(s, 130815));
+    partition(511, 256, first(s, 130817));
+    partition(512, 256, first(s, 131072));
 }
 
 fn print_boot(answer: BootStatusAnswer) {
@@ -121,33 +139,44 @@ fn print_update(answer: UpdateStatusAnswer) {
     }
 }
 
-// The status of a partition of two sectors of 256 bytes.
-fn boot_status(boot: &[u8]) {
-    match flash::check_partition(2, 256, boot) {
+fn boot_status(n: usize, size: usize, boot: &[u8]) {
+    match flash::check_partition(n, size, boot) {
         GeometryAnswer::Fits(g) => print_boot(flash_status::read_boot_status(g, boot)),
         GeometryAnswer::Outside => print(b": refused 1 at 0\n"),
     }
 }
 
-fn update_status(update: &[u8]) {
-    match flash::check_partition(2, 256, update) {
+fn update_status(n: usize, size: usize, update: &[u8]) {
+    match flash::check_partition(n, size, update) {
         GeometryAnswer::Fits(g) => print_update(flash_status::read_update_status(g, update)),
         GeometryAnswer::Outside => print(b": refused 1 at 0\n"),
     }
 }
 
-fn boot_byte(byte: u8) {
-    let mut boot = [0xAAu8; 512];
-    boot[511] = byte;
-    print_byte(b"BOOT status ", byte);
-    boot_status(&boot);
+fn write(s: &mut [u8], at: usize, byte: u8) {
+    if s.len() <= at {
+        return;
+    }
+    s[at] = byte;
 }
 
-fn update_byte(byte: u8) {
-    let mut update = [0xAAu8; 512];
-    update[511] = byte;
-    print_byte(b"UPDATE status ", byte);
-    update_status(&update);
+// A byte of a partition is written and told.
+fn put(n: usize, size: usize, s: &mut [u8], at: usize, byte: u8) {
+    write(s, at, byte);
+    print_number(b"n ", n);
+    print_number(b" S ", size);
+    print_number(b" byte ", at);
+    print_byte(b" is ", byte);
+}
+
+// The byte as a status of BOOT and of UPDATE.
+fn status(n: usize, size: usize, s: &mut [u8], at: usize, byte: u8) {
+    put(n, size, s, at, byte);
+    print(b": BOOT");
+    boot_status(n, size, s);
+    put(n, size, s, at, byte);
+    print(b": UPDATE");
+    update_status(n, size, s);
 }
 
 fn print_leg(leg: Leg) {
@@ -170,58 +199,17 @@ fn print_flags(flags: Flags) {
     }
 }
 
-// The flags of a partition of n sectors of 256 bytes.
-fn flags(n: usize, update: &[u8]) {
-    match flash::check_partition(n, 256, update) {
+fn flags(n: usize, size: usize, update: &[u8]) {
+    match flash::check_partition(n, size, update) {
         GeometryAnswer::Fits(g) => print_flags(flash_flags::read_flags(g, update)),
         GeometryAnswer::Outside => print(b": refused 1 at 0\n"),
     }
 }
 
-// Two firmware sectors, whose flags fill a byte.
-fn two_flags(byte: u8) {
-    let mut update = [0xAAu8; 768];
-    update[766] = byte;
-    print_byte(b"m 2 flag byte ", byte);
-    flags(3, &update);
-}
-
-// One firmware sector: the high half byte is unused.
-fn one_flag(byte: u8) {
-    let mut update = [0xAAu8; 512];
-    update[510] = byte;
-    print_byte(b"m 1 flag byte ", byte);
-    flags(2, &update);
-}
-
-// Four firmware sectors: the flags of sectors 0 and 1, then those of 2 and 3 in the byte before.
-fn four_flags(first: u8, second: u8) {
-    let mut update = [0xAAu8; 1280];
-    update[1278] = first;
-    update[1277] = second;
-    print_byte(b"m 4 flag bytes ", first);
-    print_byte(b" ", second);
-    flags(5, &update);
-}
-
-// 63 firmware sectors: the bytes of sectors 0 and 1 and of 2 and 3, and F in every later flag.
-fn first_of_63(first: u8, second: u8) {
-    let mut update = [0xFFu8; 16384];
-    update[16382] = first;
-    update[16381] = second;
-    print_byte(b"m 63 first flag bytes ", first);
-    print_byte(b" ", second);
-    flags(64, &update);
-}
-
-// 63 firmware sectors: 0 in every earlier flag, the byte of sectors 60 and 61, and that of 62, whose high half is unused.
-fn last_of_63(before: u8, last: u8) {
-    let mut update = [0x00u8; 16384];
-    update[16352] = before;
-    update[16351] = last;
-    print_byte(b"m 63 last flag bytes ", before);
-    print_byte(b" ", last);
-    flags(64, &update);
+// What the flags show with this byte.
+fn shown(n: usize, size: usize, s: &mut [u8], at: usize, byte: u8) {
+    put(n, size, s, at, byte);
+    flags(n, size, s);
 }
 
 fn copy(target: &mut [u8], source: &[u8]) {
@@ -241,91 +229,177 @@ fn copies(source: &[u8]) {
 }
 
 fn geometries() {
-    four_sizes(64);
-    four_sizes(65);
-    four_sizes(1);
-    four_sizes(2);
+    sizes(512);
+    sizes(513);
+    sizes(1);
+    sizes(2);
+    sizes(511);
+    sizes(64);
+    sizes(65);
     geometry(3, 768);
     geometry(2, 0);
     geometry(0, 256);
+}
+
+fn near_the_largest() {
     geometry(18446744073709551615, 18446744073709551615);
+    geometry(18446744073709551615, 512);
+    geometry(18446744073709551615, 256);
+    geometry(9223372036854775808, 512);
+    geometry(2, 18446744073709551615);
+    geometry(2, 18446744073709551360);
 }
 
-fn boot_statuses() {
-    boot_byte(0xFF);
-    boot_byte(0x70);
-    boot_byte(0x10);
-    boot_byte(0x00);
-    boot_byte(0x01);
+fn statuses() {
+    let mut s = [0xAAu8; 512];
+    status(2, 256, &mut s, 511, 0xFF);
+    status(2, 256, &mut s, 511, 0x70);
+    status(2, 256, &mut s, 511, 0x10);
+    status(2, 256, &mut s, 511, 0x00);
+    status(2, 256, &mut s, 511, 0x01);
 }
 
-fn update_statuses() {
-    update_byte(0xFF);
-    update_byte(0x70);
-    update_byte(0x10);
-    update_byte(0x00);
-    update_byte(0x01);
+fn statuses_of_510(s: &mut [u8]) {
+    status(511, 256, s, 130815, 0x10);
+    status(511, 256, s, 130815, 0x70);
 }
 
-fn well_formed() {
-    two_flags(0xFF);
-    two_flags(0xF7);
-    two_flags(0xF3);
-    two_flags(0xF0);
-    two_flags(0x70);
-    two_flags(0x30);
-    two_flags(0x00);
+fn statuses_of_511(s: &mut [u8]) {
+    status(512, 512, s, 262143, 0x10);
+    status(512, 512, s, 262143, 0x70);
+}
+
+// Two firmware sectors, whose flags fill a byte.
+fn flags_of_two() {
+    let mut s = [0xAAu8; 768];
+    shown(3, 256, &mut s, 766, 0xFF);
+    shown(3, 256, &mut s, 766, 0xF7);
+    shown(3, 256, &mut s, 766, 0xF3);
+    shown(3, 256, &mut s, 766, 0xF0);
+    shown(3, 256, &mut s, 766, 0x70);
+    shown(3, 256, &mut s, 766, 0x30);
+    shown(3, 256, &mut s, 766, 0x00);
 }
 
 fn malformed() {
-    two_flags(0x7F);
-    two_flags(0x73);
-    two_flags(0xF5);
+    let mut s = [0xAAu8; 768];
+    shown(3, 256, &mut s, 766, 0x7F);
+    shown(3, 256, &mut s, 766, 0x73);
+    shown(3, 256, &mut s, 766, 0xF5);
 }
 
-fn half_bytes() {
-    one_flag(0xAF);
-    one_flag(0xA7);
-    one_flag(0xA0);
-    one_flag(0xFA);
+// One firmware sector: the high half byte is unused.
+fn flags_of_one() {
+    let mut s = [0xAAu8; 512];
+    shown(2, 256, &mut s, 510, 0xAF);
+    shown(2, 256, &mut s, 510, 0xA7);
+    shown(2, 256, &mut s, 510, 0xA0);
+    shown(2, 256, &mut s, 510, 0xFA);
 }
 
+// Four: the flags of sectors 0 and 1, and those of 2 and 3 in the byte before.
 fn flags_of_four() {
-    four_flags(0xFF, 0xFF);
-    four_flags(0x00, 0xFF);
-    four_flags(0x00, 0xF7);
-    four_flags(0x00, 0xF0);
-    four_flags(0x00, 0x30);
-    four_flags(0x00, 0x00);
-    four_flags(0xF0, 0xFF);
-    four_flags(0xFF, 0x00);
-    four_flags(0x00, 0x7F);
+    let mut s = [0xFFu8; 1280];
+    shown(5, 256, &mut s, 1278, 0xF0);
+    shown(5, 256, &mut s, 1278, 0x00);
+    shown(5, 256, &mut s, 1277, 0xF7);
+    shown(5, 256, &mut s, 1277, 0x7F);
+    shown(5, 256, &mut s, 1277, 0xF0);
+    shown(5, 256, &mut s, 1277, 0x30);
+    shown(5, 256, &mut s, 1277, 0x00);
+    shown(5, 256, &mut s, 1278, 0xFF);
 }
 
+// 63: first the flags of sectors 0 to 3, with F behind them; then those of 60 and 61, with 0 before them, and of 62, whose high half is
+// unused.
 fn flags_of_63() {
-    first_of_63(0xFF, 0xFF);
-    first_of_63(0xF7, 0xFF);
-    first_of_63(0x00, 0x30);
-    last_of_63(0x70, 0xFF);
-    last_of_63(0x00, 0xF7);
-    last_of_63(0x00, 0xA3);
-    last_of_63(0x00, 0xF0);
-    last_of_63(0x00, 0x7F);
+    let mut s = [0xFFu8; 16384];
+    shown(64, 256, &mut s, 16382, 0xF7);
+    shown(64, 256, &mut s, 16382, 0x00);
+    shown(64, 256, &mut s, 16381, 0x30);
+    let mut s = [0x00u8; 16384];
+    shown(64, 256, &mut s, 16351, 0xFF);
+    shown(64, 256, &mut s, 16352, 0x70);
+    shown(64, 256, &mut s, 16352, 0x00);
+    shown(64, 256, &mut s, 16351, 0xA3);
+    shown(64, 256, &mut s, 16351, 0x7A);
+}
+
+// 510 with 0 in every flag, whose trailer fills its sector: the flags of sectors 506 to 509, the last two in the sector's first byte.
+fn last_of_510(s: &mut [u8]) {
+    shown(511, 256, s, 130560, 0xFF);
+    shown(511, 256, s, 130561, 0x70);
+    shown(511, 256, s, 130561, 0x00);
+    shown(511, 256, s, 130560, 0x30);
+    shown(511, 256, s, 130560, 0x7F);
+}
+
+// The same with F in every flag: those of sectors 0 to 3.
+fn first_of_510(s: &mut [u8]) {
+    shown(511, 256, s, 130814, 0xF7);
+    shown(511, 256, s, 130814, 0x00);
+    shown(511, 256, s, 130813, 0x30);
+}
+
+// 511 with 0 in every flag: those of sectors 508 to 510, the high half of the last byte being unused.
+fn last_of_511(s: &mut [u8]) {
+    shown(512, 512, s, 261887, 0xFF);
+    shown(512, 512, s, 261888, 0x70);
+    shown(512, 512, s, 261888, 0x00);
+    shown(512, 512, s, 261887, 0xA3);
+    shown(512, 512, s, 261887, 0x7A);
+}
+
+fn with_511(s: &mut [u8]) {
+    if s.len() < 262144 {
+        return;
+    }
+    let part = &mut s[..262144];
+    statuses_of_511(part);
+    last_of_511(part);
+}
+
+// The last 256 bytes.
+fn erase_256(s: &mut [u8]) {
+    if s.len() < 256 {
+        return;
+    }
+    let at = s.len() - 256;
+    flash_sectors::erase(&mut s[at..]);
+}
+
+fn with_510(s: &mut [u8]) {
+    if s.len() < 130816 {
+        return;
+    }
+    let part = &mut s[..130816];
+    statuses_of_510(part);
+    last_of_510(part);
+    erase_256(part);
+    first_of_510(part);
+}
+
+// Cases in parts of one buffer, which has room for 512 sectors of 512 bytes and a byte more.
+fn in_buffer(s: &mut [u8]) {
+    boot_lengths(s);
+    other_lengths(s);
+    geometries_of_buffers(s);
+    most_sectors(s);
+    partitions(s);
+    copies(first(s, 256));
+    with_511(s);
+    with_510(s);
 }
 
 fn main() {
     geometries();
-    let s = [0u8; 768];
-    boot_lengths(&s);
-    other_lengths(&s);
-    geometries_of_buffers(&s);
-    partitions(&s);
-    boot_statuses();
-    update_statuses();
-    well_formed();
+    near_the_largest();
+    let mut s = [0u8; 262145];
+    in_buffer(&mut s);
+    statuses();
+    flags_of_two();
     malformed();
-    half_bytes();
+    flags_of_one();
     flags_of_four();
     flags_of_63();
-    copies(first(&s, 256));
 }

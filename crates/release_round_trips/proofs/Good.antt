@@ -10,10 +10,10 @@ use lib.Dec.{lit<, lit≤}
 use Rattle.numbers.specs.Answer.{Answer, gives, then}
 use Rattle.digest_fips180.specs.Sha256.{sha256, bytes, bigEndian}
 use Rattle.flash.specs.declared.Geometry.{Geometry}
-use Rattle.flash.specs.Sizes.{geometry, firmware}
+use Rattle.flash.specs.Sizes.{geometry, firmware, withinLimits, geometryOf}
 use Rattle.flash.specs.Buffers.{partitionOf}
 use Rattle.flash.specs.Sectors.{firmwareOf}
-use Rattle.flash.proofs.Taken.{which-are-taken}
+use Rattle.flash.proofs.Taken.{which-are-taken, tested}
 use Rattle.flash.proofs.Answers.{partition-equal}
 use Rattle.header_reader.specs.declared.Header.{Header}
 use Rattle.header_writer.specs.Writing.{Write, headerBytes, writeHeader}
@@ -149,6 +149,7 @@ example-makable hint =
     }
 
 pub premises-met : PremisesMet
+unfolding geometryOf withinLimits firmware
 premises-met hint =
     let g = example-makable hint in
     let x = h (exampleStated hint) exampleFirmware (replicate 256 0) g in
@@ -158,7 +159,7 @@ premises-met hint =
       partition = x ++ (exampleFirmware ++ replicate 512 0xFF);
       placed =
           record {
-            rules = record { unit = refl; small = lit≤ tt; large = lit≤ tt; few = lit≤ tt; many = lit≤ tt };
+            rules = tested 2 512 refl;
             whole = length-append x (exampleFirmware ++ replicate 512 0xFF) ∙ ap (λ (n : ℕ). n + 768) l;
             rest = replicate 512 0xFF;
             begins = refl;

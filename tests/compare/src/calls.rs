@@ -220,7 +220,7 @@ pub fn try_largest_firmware(c: &Compare) {
 // ---- images and flash
 
 fn any_budget(r: &mut Random, g: Geometry) -> u64 {
-    let all = 9 * (g.n.clamp(1, 64) as u64 - 1);
+    let all = 9 * (g.n.clamp(1, 512) as u64 - 1);
     let (few, some, any) = (r.below(5) as u64, r.next() % (all + 6), r.next());
     r.pick(&[few, some, some, all + few, any, 1 << 32, u64::MAX])
 }
@@ -250,7 +250,7 @@ fn try_flash(c: &mut Compare, r: &mut Random, g: Geometry) {
 
 /// The smallest and the largest flashes.
 pub fn try_corners(c: &mut Compare, r: &mut Random) {
-    for (n, s) in [(2, 256), (2, 512), (64, 256), (2, 131_072), (64, 131_072)] {
+    for (n, s) in [(2, 256), (2, 512), (511, 256), (512, 512), (2, 131_072), (512, 131_072)] {
         try_flash(c, r, Geometry { n, s });
     }
 }

@@ -359,17 +359,32 @@ fn lists(c: &mut Compare, r: &mut Random, g: Geometry, tried: &mut Tried) {
     }
 }
 
-/// Lists with many cuts, for up to 63 firmware sectors and for large ones; and a cut in the largest flash.
+/// Whole exchanges of the most firmware sectors, 510 with a trailer that fills its sector and 511, and some that lose power.
+fn most_sectors(c: &mut Compare, r: &mut Random, tried: &mut Tried) {
+    for (n, s) in [(511, 256), (512, 512)] {
+        for job in jobs(c, r, Geometry { n, s }) {
+            job.finish(c, &job.start());
+            for _ in 0..5 {
+                job.any_cut(c, r, tried);
+            }
+            job.any_list(c, r);
+            tried.lists += 1;
+        }
+    }
+}
+
+/// Lists with many cuts, for up to 511 firmware sectors and for large ones; and a cut in the largest flash.
 pub fn try_lists(c: &mut Compare, r: &mut Random, tried: &mut Tried) {
     for round in 0..400 {
-        let n = if round % 20 == 0 { r.within(2, 64) } else { r.within(2, 9) };
+        let n = if round % 20 == 0 { r.within(2, 512) } else { r.within(2, 9) };
         let s = 256 * r.within(2, 4);
         lists(c, r, Geometry { n, s }, tried);
     }
     for (n, s) in [(64, 256), (2, 131_072), (3, 131_072)] {
         lists(c, r, Geometry { n, s }, tried);
     }
-    let largest = Geometry { n: 64, s: 131_072 };
+    most_sectors(c, r, tried);
+    let largest = Geometry { n: 512, s: 131_072 };
     let update = armed(r, largest, SUCCESS);
     Job::new(c, largest, update, false).any_cut(c, r, tried);
     println!("{} lists of power-ups, no difference", tried.lists);

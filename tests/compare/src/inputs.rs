@@ -266,12 +266,18 @@ pub fn file(r: &mut Random) -> Vec<u8> {
 
 // ---- flashes
 
-/// Mostly a few small sectors; at times many, large, or both.
+/// Mostly a few small sectors; at times many, large, or, seldom, both.
 pub fn geometry(r: &mut Random) -> Geometry {
-    if r.one_in(2000) {
+    if r.one_in(20_000) {
+        let any = r.within(2, 512);
+        Geometry { n: r.pick(&[any, 511, 512]), s: 256 * r.within(2, 512) }
+    } else if r.one_in(2000) {
         Geometry { n: r.within(2, 64), s: 256 * r.within(1, 512) }
     } else if r.one_in(250) {
         Geometry { n: r.within(2, 4), s: 256 * r.within(1, 512) }
+    } else if r.one_in(500) {
+        let (any, s) = (r.within(2, 511), 256 * r.within(1, 2));
+        r.pick(&[Geometry { n: any, s }, Geometry { n: 511, s }, Geometry { n: 512, s: 512 }])
     } else if r.one_in(25) {
         Geometry { n: r.within(2, 64), s: 256 * r.within(1, 2) }
     } else {
@@ -346,8 +352,9 @@ pub fn flash(r: &mut Random, g: Geometry) -> Flash {
 
 /// Sizes outside the rules, and buffers that fit them.
 pub fn flash_outside_rules(r: &mut Random) -> (Geometry, Flash) {
-    let small = [(0, 256), (1, 256), (65, 256), (100, 256), (2, 0), (3, 128), (3, 255), (3, 257), (3, 384), (2, 300)];
-    let (n, s) = if r.one_in(100) { (2, 131_328) } else { r.pick(&small) };
+    let small = [(0, 256), (1, 256), (2, 0), (3, 128), (3, 255), (3, 257), (3, 384), (2, 300)];
+    let large = [(2, 131_328), (512, 256), (513, 256), (513, 512), (512, 384), (1000, 256)];
+    let (n, s) = if r.one_in(50) { r.pick(&large) } else { r.pick(&small) };
     let mut f = Flash { boot: r.bytes(n * s), update: r.bytes(n * s), swap: r.bytes(s) };
     if n * s > 0 {
         f.boot[n * s - 1] = SUCCESS;

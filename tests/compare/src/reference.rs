@@ -305,11 +305,18 @@ pub struct Geometry {
 
 impl Geometry {
     pub fn within_rules(&self) -> bool {
-        self.n >= 2 && self.n <= 64 && self.s >= 256 && self.s <= 131_072 && self.s % 256 == 0
+        let counts = self.n >= 2 && self.n <= 512 && self.s >= 256 && self.s <= 131_072 && self.s % 256 == 0;
+        counts && self.trailer() <= self.s
     }
 
     pub fn m(&self) -> usize {
         self.n - 1
+    }
+
+    /// The status byte, and the bytes of the flags, the last of which may be half used.
+    fn trailer(&self) -> usize {
+        let (bytes, over) = (self.m() / 2, self.m() % 2);
+        1 + bytes + over
     }
 }
 

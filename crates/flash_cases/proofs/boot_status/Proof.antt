@@ -5,8 +5,8 @@ use Rattle.flash_cases.proofs.boot_status.Tie as tie
 
 read-boot-status-requires : tie.Need-read-boot-status-requires
 read-boot-status-requires c κs =
-    partition-given 2 256 (c .before .before .before .before .before .args .boot .now) _
-    (rw (c .before .g .given .1) at (c .before .before .before .check-partition .ensures))
+    let a = c .before .before .before .before .before .args in
+    partition-given (a .n) (a .size) (a .boot .now) _ (rw (c .before .g .given .1) at (c .before .before .before .check-partition .ensures))
 
 pub boot-status-spec : {M : Type 1} → statement M
 boot-status-spec =

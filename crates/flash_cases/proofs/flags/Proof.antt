@@ -6,7 +6,7 @@ use Rattle.flash_cases.proofs.flags.Tie as tie
 read-flags-requires : tie.Need-read-flags-requires
 read-flags-requires c κs =
     let a = c .before .before .before .before .before .args in
-    partition-given (a .n) 256 (a .update .now) _ (rw (c .before .g .given .1) at (c .before .before .before .check-partition .ensures))
+    partition-given (a .n) (a .size) (a .update .now) _ (rw (c .before .g .given .1) at (c .before .before .before .check-partition .ensures))
 
 pub flags-spec : {M : Type 1} → statement M
 flags-spec =

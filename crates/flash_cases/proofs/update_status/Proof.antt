@@ -5,8 +5,8 @@ use Rattle.flash_cases.proofs.update_status.Tie as tie
 
 read-update-status-requires : tie.Need-read-update-status-requires
 read-update-status-requires c κs =
-    partition-given 2 256 (c .before .before .before .before .before .args .update .now) _
-    (rw (c .before .g .given .1) at (c .before .before .before .check-partition .ensures))
+    let a = c .before .before .before .before .before .args in
+    partition-given (a .n) (a .size) (a .update .now) _ (rw (c .before .g .given .1) at (c .before .before .before .check-partition .ensures))
 
 pub update-status-spec : {M : Type 1} → statement M
 update-status-spec =
