@@ -26,7 +26,8 @@ impl Geometry {
     pub fn new(sectors: usize, size: usize) -> Result<Geometry, Refusal> {
         let within = Self::SECTORS.contains(&sectors) && Self::SIZES.contains(&size) && size % Self::SIZE_UNIT == 0;
         // Half of the sectors before the trailer's, rounded up, is half of all, rounded down.
-        if within && 1 + sectors / 2 <= size {
+        let trailer = 1 + sectors / 2;
+        if within && trailer <= size {
             Ok(Geometry { sectors, size })
         } else {
             Err(Refusal::new(1, 0))

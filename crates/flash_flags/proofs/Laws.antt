@@ -26,6 +26,7 @@ use Rattle.flash_flags.specs.declared.FlagRead.the-variants.{Known}
 use Rattle.flash_flags.specs.declared.Flags.the-variants.{AllF}
 use Rattle.flash_status.specs.StatusBytes.{statusPlace, statusByte, setStatusByte, bootByte, bootStatusOf, bootStatusAt, setBootStatus, updateByte, updateStatusOf, updateStatusAt, setUpdateStatus}
 use Rattle.flash_flags.specs.SectorFlags.{flagValue, flagOf, flagByte, half, withHalf, flagAt, setFlag, flagsAt}
+use Rattle.flash_flags.proofs.Room.{flags-in-trailer}
 use Rattle.flash_flags.proofs.Halves.{value-small, half-same, half-other, half-narrow, half-full}
 use Rattle.flash_flags.proofs.Shown.{flags-same, shown-all-F}
 
@@ -51,9 +52,8 @@ reads-flag Exchanged = refl
 
 module _ (g : Geometry) (G : Limits g) where
   -- the byte of a flag lies in the trailer sector, before the status byte
-  pub flag-place : (i : ℕ) → i < firmware g → (firmware g * g .size ≤ flagByte g i) × (flagByte g i + 2 ≤ partitionSize g)
-  unfolding flagByte
-  flag-place i h = omega (arith, size-split g G, G .trailer)
+  pub flag-place : (i : ℕ) → i < firmware g → (firmware g * g .size ≤ flagByte g i) × (flagByte g i + 1 < partitionSize g)
+  flag-place i h = flags-in-trailer g (G .few) (omega (arith, G .small)) .0 (G .trailer) i h
 
   same-flag-byte : (i j : ℕ) → i ≤ firmware g → j ≤ firmware g → flagByte g i ≡ flagByte g j → i / 2 ≡ j / 2
   unfolding flagByte

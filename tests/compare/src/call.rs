@@ -217,6 +217,14 @@ impl Call {
         }
     }
 
+    /// The geometry that is asked for, if one is.
+    pub fn geometry(&self) -> Option<Geometry> {
+        match self {
+            Call::CheckImage { g, .. } | Call::PowerUp { g, .. } | Call::Arm { g, .. } | Call::Confirm { g, .. } => Some(*g),
+            _ => None,
+        }
+    }
+
     /// Whether a buffer is longer than any that a short test would pass.
     pub fn is_long(&self) -> bool {
         match self {

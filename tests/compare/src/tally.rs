@@ -1,6 +1,6 @@
 //! How often each call gave each answer, and what has to be met in a run.
 use crate::call::Call;
-use crate::reference::{next_tag, HEADER, NAMES};
+use crate::reference::{next_tag, Geometry, HEADER, NAMES};
 use std::collections::BTreeMap;
 
 const TYPES: [u16; 6] = [0x0001, 0x0002, 0x0003, 0x0020, 0x0030, 0x1000];
@@ -139,6 +139,17 @@ fn of_sheet(text: &[u8], number: u32, place: u64) -> Vec<String> {
     }
 }
 
+/// The ends of a geometry's rules: the most sectors, a trailer that fills its sector, and one that is a byte too long.
+fn of_geometry(g: Geometry, number: u32) -> Option<&'static str> {
+    match (g.n, g.s, number) {
+        (512, 256, 1) => Some("refused 1 for the trailer"),
+        (_, _, 1) => None,
+        (512, _, _) => Some("of 512 sectors"),
+        (511, 256, _) => Some("of 511 sectors, the trailer full"),
+        _ => None,
+    }
+}
+
 fn answers(asked: &Call, number: u32, after: &Call) -> Vec<String> {
     let mut all = match after {
         Call::PowerUp { answer, .. } if answer.len() == 6 => of_power_up(number, answer),
@@ -154,6 +165,9 @@ fn answers(asked: &Call, number: u32, after: &Call) -> Vec<String> {
     if let (Call::CheckFirmware { image, numbers, .. }, 0) = (after, number) {
         let behind = if image.len() as u64 > HEADER as u64 + numbers[1] { "bytes" } else { "nothing" };
         all.push(format!("done, {behind} behind the firmware"));
+    }
+    if let Some(what) = asked.geometry().and_then(|g| of_geometry(g, number)) {
+        all.push(what.to_string());
     }
     if asked.is_long() && number != 1 {
         all.push("on long buffers".to_string());
@@ -202,6 +216,11 @@ fn answers_to_meet() -> Vec<String> {
     for (call, answers) in numbers {
         all.push(format!("{call}: on long buffers"));
         all.extend(answers.iter().map(|n| format!("{call}: {}", answered(*n))));
+    }
+    for call in ["check_image", "power_up", "arm", "confirm"] {
+        for what in ["of 512 sectors", "of 511 sectors, the trailer full", "refused 1 for the trailer"] {
+            all.push(format!("{call}: {what}"));
+        }
     }
     for (name, _) in NAMES {
         all.push(format!("read_sheet: refused 105 for {name}"));
