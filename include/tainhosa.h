@@ -202,7 +202,7 @@ TAINHOSA_CALL uint32_t tainhosa_make_header(uint8_t *out, size_t out_length,
 /*
  * A partition, BOOT or UPDATE, has `sectors` sectors of `size` bytes: an image from byte 0 on, and in its last sector the
  * trailer, whose last byte is the status. SWAP is one sector. The trailer, one byte and half a byte for each sector before
- * it, rounded up, fits the last sector: 512 sectors of 256 bytes are refused with 1, 511 are taken.
+ * it, rounded up, fits the last sector: 512 sectors of 256 bytes are refused with 1, 511 are taken. A partition has at most 64 MiB.
  */
 #define TAINHOSA_SECTORS_MIN 2
 #define TAINHOSA_SECTORS_MAX 512
