@@ -30,6 +30,7 @@ use Rattle.exchange.proofs.Decided.{Decides}
 use Rattle.exchange.proofs.Played.{OldRuns, old-runs, works, end-good}
 use Rattle.exchange.proofs.Whole.{begins, stands-first}
 use Rattle.numbers.proofs.Every.{every}
+use Rattle.numbers.proofs.Tests.{second-of}
 
 two : firmware three ≡ 2
 unfolding firmware
@@ -203,12 +204,8 @@ module _ (check : Check) (old : Flash) (G : Limits three) {x : Exchange} {b₀ :
   ran (b ∷ bs) f zero o s h = absurd (let z : _≡_ {A = ℕ} 0 1 = cc in omega arith)
   ran (b ∷ bs) f (suc r) o s h =
       on (one f r b s) (λ y. ran bs ((powerUp check three f b) .flash) (nextLeft (closingLeft (closing B)) (suc r) b) ((powerUp check three f b) .outcome) y
-      (and-right (ltb 0 (suc r)) (going (closingLeft (closing B)) (nextLeft (closingLeft (closing B)) (suc r) b) bs) h))
+      (second-of (ltb 0 (suc r)) (going (closingLeft (closing B)) (nextLeft (closingLeft (closing B)) (suc r) b) bs) h))
     where
-      and-right : (a b : Bool) → a && b ≡ true → b ≡ true
-      and-right true b e = e
-      and-right false b e = absurd (let z : _≡_ {A = ℕ} 0 1 = cc in omega arith)
-
       on : One f (suc r) b (powerUp check three f b)
           → (Stage (Decides check three B) three old B ((powerUp check three f b) .flash) 0 (nextLeft (closingLeft (closing B)) (suc r) b)
           → Ran ((powerUp check three f b) .flash) (nextLeft (closingLeft (closing B)) (suc r) b) bs ((powerUp check three f b) .outcome))

@@ -6,14 +6,15 @@ use mathlib.Core.List.{List}
 use Prim.Native.Nat.{ℕ}
 use native.Mathlib.Omega.{arith}
 use lib.ListN.{length}
-use borrow.Author.Tests.{eq-eqb, ne-eqb}
 use Rattle.numbers.specs.Answer.{gives}
 use Rattle.flash.specs.declared.Geometry.{Geometry}
 use Rattle.flash.specs.declared.GeometryAnswer.the-variants.{Outside}
 use Rattle.flash.specs.Sizes.{geometry, partitionSize, withinLimits, Limits, geometryAnswer, geometryWhere, geometryOf}
 use Rattle.flash.specs.Sectors.{Partition}
 use Rattle.flash.specs.Buffers.{Flash, flash, partitionFits, fits, Shaped, partitionOf, flashOf}
-use Rattle.flash.proofs.Checked.{limits-of, partition-of, shaped-of, shaped-fits}
+use Rattle.flash.proofs.Taken.{rules-hold, which-are-taken}
+use Rattle.flash.proofs.Checked.{limits-rules, limits-of, partition-of, shaped-of, shaped-fits}
+use Rattle.flash.proofs.Lent.{which-partitions, which-flashes}
 
 -- what is given is the geometry that was asked for, and the rules hold of it
 record Given (b : Bool) (n s : ℕ) (g : Geometry) : Type 0 where
@@ -30,28 +31,27 @@ not-given false n s e = refl
 
 -- ---- a geometry alone
 
-pub limits-given : (n s : ℕ) (g : Geometry) → gives g ≡ geometryOf n s → Limits g
+rules-given : (n s : ℕ) (g : Geometry) → gives g ≡ geometryOf n s → Given (withinLimits (geometry n s)) n s g
 unfolding geometryOf
-limits-given n s g e = let t = given (withinLimits (geometry n s)) n s g e in rw (t .is) (limits-of (geometry n s) (t .holds))
+rules-given n s g e = given (withinLimits (geometry n s)) n s g e
+
+pub limits-given : (n s : ℕ) (g : Geometry) → gives g ≡ geometryOf n s → Limits g
+limits-given n s g e = let t = rules-given n s g e in rw (t .is) (limits-of (geometry n s) (t .holds))
 
 -- ---- with one partition
 
 module _ (n s : ℕ) (l : List ℕ) where
   pub partition-outside : geometryAnswer Outside ≡ geometryOf n s → geometryAnswer Outside ≡ partitionOf n s l
-  unfolding geometryOf partitionOf partitionFits
-  partition-outside e = rw (not-given (withinLimits (geometry n s)) n s e) refl
+  partition-outside e = sym (which-partitions n s l .refusal .1 (λ p. which-are-taken n s .refusal .0 (sym e) (p .0)))
 
-  pub partition-unequal : (g : Geometry) → gives g ≡ geometryOf n s → length l ≢ partitionSize g → geometryAnswer Outside ≡ partitionOf n s l
-  unfolding geometryOf partitionOf partitionFits
-  partition-unequal g e h =
-      let t = given (withinLimits (geometry n s)) n s g e in
-      rw (t .holds, ne-eqb (length l) (partitionSize (geometry n s)) (λ k. h (k ∙ ap partitionSize (sym (t .is))))) refl
+  module _ (g : Geometry) (e : gives g ≡ geometryOf n s) where
+    pub partition-unequal : length l ≢ partitionSize g → geometryAnswer Outside ≡ partitionOf n s l
+    partition-unequal h = sym (which-partitions n s l .refusal .1 (λ p. h (p .1 ∙ ap partitionSize (sym (rules-given n s g e .is)))))
 
-  pub partition-equal : (g : Geometry) → gives g ≡ geometryOf n s → length l ≡ partitionSize g → gives g ≡ partitionOf n s l
-  unfolding geometryOf partitionOf partitionFits
-  partition-equal g e h =
-      let t = given (withinLimits (geometry n s)) n s g e in
-      rw (t .holds, eq-eqb (length l) (partitionSize (geometry n s)) (h ∙ ap partitionSize (t .is))) (ap gives (t .is))
+    pub partition-equal : length l ≡ partitionSize g → gives g ≡ partitionOf n s l
+    partition-equal h =
+        let t = rules-given n s g e in
+        ap gives (t .is) ∙ sym (which-partitions n s l .taken .1 (rules-hold (geometry n s) (t .holds), h ∙ ap partitionSize (t .is)))
 
   pub partition-given : (g : Geometry) → gives g ≡ partitionOf n s l → Partition g l
   unfolding partitionOf
@@ -63,31 +63,29 @@ module _ (n s : ℕ) (l : List ℕ) where
 
 module _ (n s : ℕ) (b u w : List ℕ) where
   pub flash-outside : geometryAnswer Outside ≡ partitionOf n s b → geometryAnswer Outside ≡ flashOf n s (flash b u w)
-  unfolding partitionOf flashOf fits
-  flash-outside e = rw (not-given (partitionFits (geometry n s) b) n s e) refl
+  flash-outside e = sym (which-flashes n s (flash b u w) .refusal .1 (λ p. which-partitions n s b .refusal .0 (sym e) (p .rules, p .boot)))
 
   module _ (g : Geometry) (e : gives g ≡ partitionOf n s b) where
     is-given : Given (partitionFits (geometry n s) b) n s g
     unfolding partitionOf
     is-given = given (partitionFits (geometry n s) b) n s g e
 
-    boot-is : length b ≡ partitionSize (geometry n s)
-    boot-is = (partition-of (geometry n s) b (is-given .holds)) .whole
-
     pub update-unequal : length u ≢ length b → geometryAnswer Outside ≡ flashOf n s (flash b u w)
-    unfolding flashOf fits
-    update-unequal h = rw (is-given .holds, ne-eqb (length u) (partitionSize (geometry n s)) (λ k. h (k ∙ sym boot-is))) refl
+    update-unequal h = sym (which-flashes n s (flash b u w) .refusal .1 (λ p. h (p .update ∙ sym (p .boot))))
 
-    pub swap-unequal : length u ≡ length b → length w ≢ g .size → geometryAnswer Outside ≡ flashOf n s (flash b u w)
-    unfolding flashOf fits
-    swap-unequal h k =
-        rw (is-given .holds, eq-eqb (length u) (partitionSize (geometry n s)) (h ∙ boot-is), ne-eqb (length w) s (λ x. k (x ∙ ap (λ (y : Geometry). y .size) (sym (is-given .is))))) refl
+    pub swap-unequal : length w ≢ g .size → geometryAnswer Outside ≡ flashOf n s (flash b u w)
+    swap-unequal h = sym (which-flashes n s (flash b u w) .refusal .1 (λ p. h (p .swap ∙ ap (λ (y : Geometry). y .size) (sym (is-given .is)))))
 
     pub flash-equal : length u ≡ length b → length w ≡ g .size → gives g ≡ flashOf n s (flash b u w)
-    unfolding flashOf fits
     flash-equal h k =
-        rw (is-given .holds, eq-eqb (length u) (partitionSize (geometry n s)) (h ∙ boot-is), eq-eqb (length w) s (k ∙ ap (λ (y : Geometry). y .size) (is-given .is)))
-        (ap gives (is-given .is))
+        let P = partition-of (geometry n s) b (is-given .holds) in
+        ap gives (is-given .is)
+        ∙ sym (which-flashes n s (flash b u w) .taken .1 (record {
+          rules = limits-rules (geometry n s) (P .limits);
+          boot = P .whole;
+          update = h ∙ P .whole;
+          swap = k ∙ ap (λ (y : Geometry). y .size) (is-given .is);
+        }))
 
 pub flash-given : (n s : ℕ) (f : Flash) (g : Geometry) → gives g ≡ flashOf n s f → Shaped g f
 unfolding flashOf

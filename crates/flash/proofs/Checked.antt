@@ -1,34 +1,38 @@
 -- What the tests of a geometry and of the lengths say, as facts, and the other way round.
 use mathlib.Core.Path.{_≡_, sym, ap, _∙_}
-use mathlib.Core.Bool.{true, _&&_}
+use mathlib.Core.Bool.{true}
 use mathlib.Core.List.{List}
 use Prim.Native.Nat.{ℕ, suc, _+_, _*_, _≤_, _<_}
 use native.Mathlib.Nat.{mul-le-mul, mul-le-mul-right, suc-mul, le-of-mul-le-mul-right}
 use native.Mathlib.Omega.{arith}
 use lib.ListN.{length}
-use lib.Dec.{eqb}
 use borrow.Author.Tests.{eqb-true, eq-eqb}
-use Rattle.numbers.proofs.Tests.{first-of, second-of}
+use Rattle.numbers.proofs.Tests.{both}
 use Rattle.flash.specs.declared.Geometry.{Geometry}
 use Rattle.flash.specs.Sizes.{firmware, partitionSize, mostSectors, largestSize, withinLimits, Limits}
 use Rattle.flash.specs.Sectors.{Partition}
 use Rattle.flash.specs.Buffers.{Flash, partitionFits, fits, Shaped}
+use Rattle.flash.specs.Taken.{InRules}
 use Rattle.flash.proofs.Taken.{tests-hold, rules-hold}
 
 -- ---- a geometry
 
-pub limits-of : (g : Geometry) → withinLimits g ≡ true → Limits g
-limits-of g h =
-    let w = rules-hold g h in
+pub rules-limits : (g : Geometry) → InRules (g .sectors) (g .size) → Limits g
+rules-limits g w =
     let c = w .counts in
     record { few = c .few; many = c .many; small = c .small; large = c .large; unit = c .unit; trailer = w .trailer }
 
+pub limits-rules : (g : Geometry) → Limits g → InRules (g .sectors) (g .size)
+limits-rules g G = record {
+  counts = record { unit = G .unit; small = G .small; large = G .large; few = G .few; many = G .many };
+  trailer = G .trailer;
+}
+
+pub limits-of : (g : Geometry) → withinLimits g ≡ true → Limits g
+limits-of g h = rules-limits g (rules-hold g h)
+
 pub limits-within : (g : Geometry) → Limits g → withinLimits g ≡ true
-limits-within g G =
-    tests-hold g (record {
-      counts = record { unit = G .unit; small = G .small; large = G .large; few = G .few; many = G .many };
-      trailer = G .trailer;
-    })
+limits-within g G = tests-hold g (limits-rules g G)
 
 -- n is m + 1
 pub sectors-are : (g : Geometry) → Limits g → g .sectors ≡ suc (firmware g)
@@ -54,10 +58,7 @@ sector-end s i j h = rw suc-mul at (mul-le-mul-right {m = suc i} {n = j} s h)
 
 pub partition-of : (g : Geometry) (l : List ℕ) → partitionFits g l ≡ true → Partition g l
 unfolding partitionFits
-partition-of g l h = record {
-  limits = limits-of g (first-of (withinLimits g) (eqb (length l) (partitionSize g)) h);
-  whole = eqb-true (length l) (partitionSize g) (second-of (withinLimits g) (eqb (length l) (partitionSize g)) h);
-}
+partition-of g l h = let t = both _ _ h in record { limits = limits-of g (t .0); whole = eqb-true _ _ (t .1) }
 
 pub partition-fits : (g : Geometry) (l : List ℕ) → Partition g l → partitionFits g l ≡ true
 unfolding partitionFits
@@ -66,16 +67,10 @@ partition-fits g l P = simp (limits-within g (P .limits), eq-eqb _ _ (P .whole))
 pub shaped-of : (g : Geometry) (f : Flash) → fits g f ≡ true → Shaped g f
 unfolding fits
 shaped-of g f h =
-    let u = eqb (length (f .update)) (partitionSize g) in
-    let s = eqb (length (f .swap)) (g .size) in
-    let k = first-of (partitionFits g (f .boot) && u) s h in
-    let b : Partition g (f .boot) = partition-of g (f .boot) (first-of (partitionFits g (f .boot)) u k) in
-    record {
-      limits = b .limits;
-      boot = b .whole;
-      update = eqb-true (length (f .update)) (partitionSize g) (second-of (partitionFits g (f .boot)) u k);
-      swap = eqb-true (length (f .swap)) (g .size) (second-of (partitionFits g (f .boot) && u) s h);
-    }
+    let s = both _ _ h in
+    let u = both _ _ (s .0) in
+    let b : Partition g (f .boot) = partition-of g (f .boot) (u .0) in
+    record { limits = b .limits; boot = b .whole; update = eqb-true _ _ (u .1); swap = eqb-true _ _ (s .1) }
 
 pub boot-partition : (g : Geometry) (f : Flash) → Shaped g f → Partition g (f .boot)
 boot-partition g f s = record { limits = s .limits; whole = s .boot }

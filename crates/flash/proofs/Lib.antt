@@ -2,6 +2,7 @@
 -- The rules of a geometry and of the lengths as facts; what the checks answer
 pub mod Taken
 pub mod Checked
+pub mod Lent
 pub mod Answers
 -- parts of a list and writes over them; the write of a sector against every sector
 pub mod Bytes

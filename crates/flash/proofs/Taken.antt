@@ -1,5 +1,6 @@
 -- Which geometries are taken. Assumes nothing.
-use mathlib.Core.Path.{_≡_, refl, sym, ap, _∙_}
+use mathlib.Core.Path.{_≡_, refl, sym}
+use mathlib.Core.Logic.{_↔_}
 use mathlib.Core.Bool.{Bool, true, false, true≢false}
 use Prim.Native.Nat.{ℕ, _<_}
 use native.Mathlib.Decide.{decLt}
@@ -10,7 +11,7 @@ use Rattle.numbers.proofs.Tests.{both}
 use Rattle.flash.specs.declared.Geometry.{Geometry}
 use Rattle.flash.specs.declared.GeometryAnswer.the-variants.{Fits, Outside}
 use Rattle.flash.specs.Sizes.{geometry, firmware, trailerLength, withinLimits, geometryAnswer, geometryWhere, geometryOf}
-use Rattle.flash.specs.Taken.{InRules, GeometryTaken, WhichAreTaken, TakenBefore, SomeAreTaken, SomeAreRefused, OnlyOneTooLong, TrailersNeed}
+use Rattle.flash.specs.Taken.{InRules, TakenIf, WhichAreTaken, TakenBefore, SomeAreTaken, SomeAreRefused, OnlyOneTooLong, TrailersNeed}
 
 -- an answer gives or refuses
 given-refused : {A : Type 0} {g : Geometry} {n p : ℕ} {a : Answer Geometry} → a ≡ gives g → a ≡ refused n p → A
@@ -42,20 +43,18 @@ rules-hold g h =
       trailer = leb-true _ _ (t .1);
     }
 
-module _ (n s : ℕ) where
-  taken-or-not : (b : Bool) → withinLimits (geometry n s) ≡ b → GeometryTaken n s
-  unfolding geometryOf
-  taken-or-not true h =
-      let w = rules-hold (geometry n s) h in
-      let e = ap (λ (b : Bool). geometryWhere b n s) h in
-      record { taken = (λ x. w, λ x. e); refusal = (λ x. given-refused e x, λ x. absurd (x w)) }
-  taken-or-not false h =
-      let d : InRules n s → ⊥ = λ w. true≢false (sym (tests-hold (geometry n s) w) ∙ h) in
-      let e = ap (λ (b : Bool). geometryWhere b n s) h in
-      record { taken = (λ x. given-refused x e, λ w. absurd (d w)); refusal = (λ x. d, λ x. e) }
+-- an answer by one test, which holds exactly if P does
+pub taken-if : (P : Type 0) (b : Bool) (n s : ℕ) → (b ≡ true) ↔ P → TakenIf P (geometryWhere b n s) n s
+taken-if P true n s t =
+    let p = t .0 refl in
+    record { taken = (λ x. p, λ x. refl); refusal = (λ x. given-refused refl x, λ x. absurd (x p)) }
+taken-if P false n s t =
+    let d : P → ⊥ = λ p. true≢false (sym (t .1 p)) in
+    record { taken = (λ x. given-refused x refl, λ p. absurd (d p)); refusal = (λ x. d, λ x. refl) }
 
 pub which-are-taken : WhichAreTaken
-which-are-taken n s = taken-or-not n s (withinLimits (geometry n s)) refl
+unfolding geometryOf
+which-are-taken n s = taken-if (InRules n s) (withinLimits (geometry n s)) n s (rules-hold (geometry n s), tests-hold (geometry n s))
 
 -- the same of the code's answer
 pub inside : (n s : ℕ) → InRules n s → geometryAnswer (Fits (geometry n s)) ≡ geometryOf n s

@@ -1,9 +1,14 @@
--- Document 01, "The flash", and document 02, "More sectors": which geometries are taken. Proved in proofs/.
+-- Document 01, "The flash", and document 02, "More sectors": which geometries and lengths are taken. Proved in proofs/.
 use mathlib.Core.Path.{_≡_}
 use mathlib.Core.Logic.{_↔_}
-use Prim.Native.Nat.{ℕ, _%_, _≤_}
-use Rattle.numbers.specs.Answer.{gives, refused}
+use mathlib.Core.Bool.{true}
+use mathlib.Core.List.{List}
+use Prim.Native.Nat.{ℕ, _*_, _%_, _≤_}
+use lib.ListN.{length}
+use Rattle.numbers.specs.Answer.{Answer, gives, refused}
+use Rattle.flash.specs.declared.Geometry.{Geometry}
 use Rattle.flash.specs.Sizes.{geometry, trailerLength, mostSectors, geometryOf}
+use Rattle.flash.specs.Buffers.{Flash, fits, partitionOf, flashOf}
 
 -- The steps and the ends of S, and the ends of n, where n may be as much as `most`.
 pub record UpTo (most n s : ℕ) : Type 0 where
@@ -18,13 +23,31 @@ pub record InRules (n s : ℕ) : Type 0 where
   pub counts : UpTo mostSectors n s
   pub trailer : trailerLength (geometry n s) ≤ s
 
--- A geometry is taken exactly if it is within the rules, and is refusal 1 exactly if it is not. What is taken is what was asked for.
-pub record GeometryTaken (n s : ℕ) : Type 0 where
-  pub taken : (geometryOf n s ≡ gives (geometry n s)) ↔ InRules n s
-  pub refusal : (geometryOf n s ≡ refused 1 0) ↔ (InRules n s → ⊥)
+-- The lengths with them: BOOT and UPDATE have n × S bytes, SWAP has S.
+pub record LentRight (n s : ℕ) (f : Flash) : Type 0 where
+  pub rules : InRules n s
+  pub boot : length (f .boot) ≡ n * s
+  pub update : length (f .update) ≡ n * s
+  pub swap : length (f .swap) ≡ s
 
+-- An answer is the geometry that was asked for exactly if P holds, and refusal 1 exactly if it does not.
+pub record TakenIf (P : Type 0) (answer : Answer Geometry) (n s : ℕ) : Type 0 where
+  pub taken : (answer ≡ gives (geometry n s)) ↔ P
+  pub refusal : (answer ≡ refused 1 0) ↔ (P → ⊥)
+
+-- So are the answers to a geometry alone, to one with a partition, and to one with the three buffers.
 abbrev pub WhichAreTaken : Type 0
-WhichAreTaken = (n s : ℕ) → GeometryTaken n s
+WhichAreTaken = (n s : ℕ) → TakenIf (InRules n s) (geometryOf n s) n s
+
+abbrev pub WhichPartitions : Type 0
+WhichPartitions = (n s : ℕ) (l : List ℕ) → TakenIf (InRules n s × (length l ≡ n * s)) (partitionOf n s l) n s
+
+abbrev pub WhichFlashes : Type 0
+WhichFlashes = (n s : ℕ) (f : Flash) → TakenIf (LentRight n s f) (flashOf n s f) n s
+
+-- The same of the test by which power-up, arm and confirm go.
+abbrev pub WhichFit : Type 0
+WhichFit = (n s : ℕ) (f : Flash) → (fits (geometry n s) f ≡ true) ↔ LentRight n s f
 
 -- Every geometry of document 01, which stopped at 64 sectors and had no rule for the trailer, is still taken.
 abbrev pub TakenBefore : Type 0

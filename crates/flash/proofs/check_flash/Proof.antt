@@ -15,7 +15,7 @@ returns-2 c =
     let a = c .before .before .before .before .before .before .before .before .before .before .args in
     swap-unequal (a .sectors) (a .size) (a .boot .now) (a .update .now) (a .swap .now) _
     (rw (c .before .before .before .before .g .given .1) at (c .before .before .before .before .before .before .check-partition .ensures))
-    (omega arith) (λ e. omega arith)
+    (λ e. omega arith)
 
 returns-3 : tie.Need-returns-3
 returns-3 c =
