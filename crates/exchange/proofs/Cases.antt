@@ -21,7 +21,8 @@ use Rattle.exchange.specs.Demand.{Exchange, update, fallback, jobOf, Rea
 use Rattle.numbers.specs.Every.{Every}
 use Rattle.exchange.specs.Cases.{three, flagByteOf, after, counts, lastOutcome, Leaves, ExchangeCase, powerUps, malformed, FlagByteIs, LeavesAs, ExchangeCaseHolds, exchangeCases, MarkedExchange}
 use Rattle.flash.proofs.Checked.{shaped-of}
-use Rattle.flash_flags.proofs.Moves.{legMoves, leg-below}
+use Rattle.flash_flags.specs.SectorFlags.{legMoves}
+use Rattle.flash_flags.proofs.Moves.{leg-below}
 use Rattle.exchange.proofs.Orders.{decide-by-reads}
 use Rattle.exchange.proofs.Accepted.{Images, update-good, begun}
 use Rattle.exchange.proofs.Stage.{Closing, erase-boot, write-testing, erase-update, write-success, closingLeft, closing, Closed, on-test, fallen-back, Stage, in-leg, at-last, at-end, Stepped, stepped, step}

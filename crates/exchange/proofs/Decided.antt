@@ -9,7 +9,8 @@ use Rattle.exchange.specs.Base.{Limits, sectorNumber, Flash, Shaped}
 use Rattle.exchange.specs.Decision.{Check, work, decideBy, decide}
 use Rattle.exchange.specs.Demand.{Exchange, jobOf, Underway, from-new, from-success, from-testing}
 use Rattle.flash.proofs.Checked.{shaped-fits}
-use Rattle.flash_flags.proofs.Moves.{legMoves, atLeg, shown-leg}
+use Rattle.flash_flags.specs.SectorFlags.{legMoves}
+use Rattle.flash_flags.proofs.Moves.{atLeg, shown-leg}
 use Rattle.exchange.proofs.Orders.{decide-by-reads}
 use Rattle.exchange.proofs.Stage.{Closing, erase-boot, write-testing, erase-update, write-success, Stage, in-leg, at-last, at-end, all-0}
 

@@ -15,7 +15,8 @@ use Rattle.exchange.specs.Operations.{get, put, perform, target, source,
 use Rattle.flash.proofs.Bytes.{length-part}
 use Rattle.flash.proofs.Laws.{length-sector, sector-same, sector-other, length-erased, sector-in}
 use Rattle.flash_flags.proofs.Laws.{status-sector, flag-sector, length-flag, sector-flag, length-status, sector-status}
-use Rattle.flash_flags.proofs.Moves.{moved-none, moved-all, legMoves, leg-below, AfterMoves, moves-on}
+use Rattle.flash_flags.specs.SectorFlags.{legMoves}
+use Rattle.flash_flags.proofs.Moves.{moved-none, moved-all, leg-below, AfterMoves, moves-on}
 
 -- after a moves: the flags, and each old sector in its place
 pub record Sound (g : Geometry) (old : Flash) (a : ℕ) (f : Flash) : Type 0 where

@@ -22,7 +22,8 @@ use Rattle.flash.proofs.Checked.{some-firmware}
 use Rattle.flash.proofs.Laws.{length-erased, sector-same}
 use Rattle.flash_flags.proofs.Laws.{boot-erased, update-erased, flags-erased, boot-written, status-flag}
 use Rattle.flash_flags.proofs.Shown.{shown-all-0}
-use Rattle.flash_flags.proofs.Moves.{legMoves, atLeg, shown-leg}
+use Rattle.flash_flags.specs.SectorFlags.{legMoves}
+use Rattle.flash_flags.proofs.Moves.{atLeg, shown-leg}
 use Rattle.exchange.proofs.Orders.{next-by-reads}
 use Rattle.exchange.proofs.Sound.{Sound, Crossed, Ready, put-shaped, put-boot-status, put-update-status, scratch, length-source, copied, advance, crossed, boot-trailer, boot-status, update-trailer}
 

@@ -15,7 +15,8 @@ use Rattle.exchange.specs.Decision.{Check, Good, work, decide}
 use Rattle.exchange.specs.PowerUp.{Outcome, refusal, cut, runs, runsOnTest, runsFallenBack, powerUp}
 use Rattle.exchange.specs.Demand.{Exchange, jobOf, Underway, from-new, from-success, from-testing, StatusesAt, inLegs, atClose, Finished, Stands, Starts, Ongoing, untorn, lost, Event, isCut, left, flashLeft, EndsAsAllowed, Allowed, flashAfter, EachSafe, most, Safe, Demand3Ongoing, Demand3}
 use Rattle.flash.proofs.Checked.{shaped-of, shaped-fits}
-use Rattle.flash_flags.proofs.Moves.{moved-none, legMoves, leg-below, AfterMoves, shown-none, moves-none}
+use Rattle.flash_flags.specs.SectorFlags.{legMoves}
+use Rattle.flash_flags.proofs.Moves.{moved-none, leg-below, AfterMoves, shown-none, moves-none}
 use Rattle.exchange.proofs.Orders.{decide-by-reads}
 use Rattle.exchange.proofs.Along.{Pays, along}
 use Rattle.exchange.proofs.Accepted.{update-good, Accepted, accepted}
@@ -149,12 +150,12 @@ module _ (check : Check) (g : Geometry) (G : Limits g) (old : Flash) {x : Exchan
 -- ---- where a list starts is a stage
 
 -- the leg after a moves of three
-legAfter : ℕ → Leg
+pub legAfter : ℕ → Leg
 legAfter zero = UpdateToSwap
 legAfter (suc zero) = BootToUpdate
 legAfter (suc (suc a)) = SwapToBoot
 
-leg-after : (a : ℕ) → a < 3 → legMoves (legAfter a) ≡ a
+pub leg-after : (a : ℕ) → a < 3 → legMoves (legAfter a) ≡ a
 unfolding legAfter
 leg-after zero h = refl
 leg-after (suc zero) h = refl
@@ -162,7 +163,7 @@ leg-after (suc (suc zero)) h = refl
 leg-after (suc (suc (suc a))) h = absurd (omega arith)
 
 -- each old sector is where its flag says
-same-flag : (v w : Flag) → Known v ≡ Known w → v ≡ w
+pub same-flag : (v w : Flag) → Known v ≡ Known w → v ≡ w
 same-flag v w e = cc
 
 placed : (g : Geometry) (old f : Flash) (a : ℕ) → Shaped g f → Stands g old f a → Sound g old a f

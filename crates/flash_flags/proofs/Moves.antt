@@ -15,15 +15,9 @@ use Rattle.flash_flags.specs.declared.Leg.{Leg}
 use Rattle.flash_flags.specs.declared.Leg.the-variants.{UpdateToSwap, BootToUpdate, SwapToBoot}
 use Rattle.flash_flags.specs.declared.Flags.{Flags}
 use Rattle.flash_flags.specs.declared.Flags.the-variants.{AllF, At, All0}
-use Rattle.flash_flags.specs.SectorFlags.{moved, flagAt, setFlag, flagsAt}
-use Rattle.flash_flags.proofs.Shown.{legFlag, shown-all-F, shown-all-0, shown-at, each-F}
+use Rattle.flash_flags.specs.SectorFlags.{moved, legFlag, legMoves, flagAt, setFlag, flagsAt}
+use Rattle.flash_flags.proofs.Shown.{shown-all-F, shown-all-0, shown-at, each-F}
 use Rattle.flash_flags.proofs.Laws.{flag-same, flag-other}
-
--- the moves that a flag has behind it, where it shows a leg
-abbrev pub legMoves : Leg → ℕ
-legMoves UpdateToSwap = 0
-legMoves BootToUpdate = 1
-legMoves SwapToBoot = 2
 
 pub leg-moved : (leg : Leg) → moved (legMoves leg) ≡ legFlag leg
 leg-moved UpdateToSwap = refl

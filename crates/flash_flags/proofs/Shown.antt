@@ -19,7 +19,7 @@ use Rattle.flash_flags.specs.declared.Leg.{Leg}
 use Rattle.flash_flags.specs.declared.Leg.the-variants.{UpdateToSwap, BootToUpdate, SwapToBoot}
 use Rattle.flash_flags.specs.declared.Flags.{Flags}
 use Rattle.flash_flags.specs.declared.Flags.the-variants.{AllF, At, All0}
-use Rattle.flash_flags.specs.SectorFlags.{flagAt, flagsFrom, flags, isF, allF, frontAt, byFlag, pastZeros, flagsShown, flagsAt}
+use Rattle.flash_flags.specs.SectorFlags.{legFlag, flagAt, flagsFrom, flags, isF, allF, frontAt, byFlag, pastZeros, flagsShown, flagsAt}
 
 -- ---- only the flags of the firmware sectors are read
 
@@ -61,12 +61,6 @@ each-from g u (suc k) i e j a b = by (ℕ-discrete i j) (λ e′ a′ b′. each
     by (no q) more = more (t .1) (omega arith) (omega arith)
 
 -- ---- well-formed flags
-
--- the flag that shows a leg
-abbrev pub legFlag : Leg → Flag
-legFlag UpdateToSwap = Untouched
-legFlag BootToUpdate = Saved
-legFlag SwapToBoot = Moved
 
 by-leg : (i : ℕ) (leg : Leg) (later : Flags) → byFlag i (Known (legFlag leg)) true later ≡ At (sectorNumber i) leg
 by-leg i UpdateToSwap later = refl

@@ -30,6 +30,17 @@ moved (suc zero) = Saved
 moved (suc (suc zero)) = Moved
 moved (suc (suc (suc a))) = Exchanged
 
+-- the flag that shows a leg, and how many moves it has behind it
+abbrev pub legFlag : Leg → Flag
+legFlag UpdateToSwap = Untouched
+legFlag BootToUpdate = Saved
+legFlag SwapToBoot = Moved
+
+abbrev pub legMoves : Leg → ℕ
+legMoves UpdateToSwap = 0
+legMoves BootToUpdate = 1
+legMoves SwapToBoot = 2
+
 -- the flag whose value a half byte is
 unfoldable pub flagOf : ℕ → FlagRead
 flagOf h =

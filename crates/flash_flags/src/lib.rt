@@ -6,7 +6,7 @@ ghost use mathlib.Core.Path.{_≡_};
 ghost use Prim.Native.Nat.{_+_, _-_, _<_};
 ghost use Rattle.flash.specs.Sizes.{firmware, Limits};
 ghost use Rattle.flash.specs.Sectors.{Partition};
-ghost use Rattle.flash_flags.specs.SectorFlags.{flagValue, flagOf, flagByte, half, withHalf, flagAt, setFlag};
+ghost use Rattle.flash_flags.specs.SectorFlags.{flagValue, legFlag, flagOf, flagByte, half, withHalf, flagAt, setFlag};
 ghost use Rattle.flash_flags.specs.SectorFlags.{flagsFrom, flags, isF, allF, frontAt, pastZeros, flagsAt};
 
 // A firmware sector's flag, document 01's F, 7, 3 and 0: nothing is done; UPDATE's sector is saved in SWAP; BOOT's is moved to UPDATE;
@@ -74,7 +74,7 @@ impl FlagRead {
 }
 
 // Where the byte is that holds the flag of firmware sector i: before the status byte, two flags to a byte.
-fn flag_offset(g: Geometry, i: SectorNumber) -> ByteOffset
+pub fn flag_offset(g: Geometry, i: SectorNumber) -> ByteOffset
     requires { ⌜ (Limits g) × (i .0 < firmware g) ⌝ }
     ensures { λ r. ⌜ r .0 ≡ flagByte g (i .0) ⌝ }
 {
@@ -123,6 +123,19 @@ pub enum Leg {
     UpdateToSwap,
     BootToUpdate,
     SwapToBoot,
+}
+
+impl Leg {
+    // The flag that shows it.
+    pub fn flag(self) -> Flag
+        ensures { λ r. ⌜ r ≡ legFlag self ⌝ }
+    {
+        match self {
+            Leg::UpdateToSwap => Flag::Untouched,
+            Leg::BootToUpdate => Flag::Saved,
+            Leg::SwapToBoot => Flag::Moved,
+        }
+    }
 }
 
 // What the flags of the firmware sectors show: not well formed; all F; the first sector whose flag is not 0 with its leg, 0 before it
