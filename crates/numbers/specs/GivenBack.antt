@@ -14,6 +14,8 @@ use Rattle.numbers.specs.declared.TurnDownReason.{TurnDownReason}
 use Rattle.numbers.specs.declared.TurnDownReason.the-variants.{None, BadUpdate, NotNewer}
 use Rattle.numbers.specs.declared.CommandRefusal.{CommandRefusal}
 use Rattle.numbers.specs.declared.CommandRefusal.the-variants.{OutsideRules as CommandOutside, StatusNotAllowed as CommandStatus, FlagsMalformed as CommandFlags, WrongTime}
+use Rattle.numbers.specs.declared.MendRefusal.{MendRefusal}
+use Rattle.numbers.specs.declared.MendRefusal.the-variants.{OutsideRules as MendOutside, StatusNotAllowed as MendStatus, WrongTime as MendWrongTime, NoMarkFits}
 use Rattle.numbers.specs.declared.SheetOutcome.{SheetOutcome}
 use Rattle.numbers.specs.declared.SheetOutcome.the-variants.{Accepted as SheetAccepted, NotUnderstood, UnknownName, BadValue, RepeatedName, MissingName}
 use Rattle.numbers.specs.declared.Refused.{Refused}
@@ -118,6 +120,15 @@ commandNumber CommandOutside = 1
 commandNumber CommandStatus = 10
 commandNumber CommandFlags = 11
 commandNumber WrongTime = 14
+
+-- ---- mending: 1, 10, 14, 17
+
+-- Mending that is refused; its place is 0. 17 is document 02's: no mark fits.
+abbrev pub mendNumber : MendRefusal → ℕ
+mendNumber MendOutside = 1
+mendNumber MendStatus = 10
+mendNumber MendWrongTime = 14
+mendNumber NoMarkFits = 17
 
 -- ---- a release sheet: 101 to 105, which are no numbers of 01
 

@@ -1,7 +1,7 @@
 // What the calls of document 01 answer, and for each answer the number and the place of its table "Numbers given back".
 ghost use mathlib.Core.Path.{_≡_};
 ghost use Rattle.numbers.specs.GivenBack.{refusedAt, refusalOf, headerSays, writerAnswer, imageSays};
-ghost use Rattle.numbers.specs.GivenBack.{powerUpSays, threeNumbers, reasonOf, reasonRefusal, commandNumber, sheetSays};
+ghost use Rattle.numbers.specs.GivenBack.{powerUpSays, threeNumbers, reasonOf, reasonRefusal, commandNumber, mendNumber, sheetSays};
 
 // ---- the answers
 
@@ -66,6 +66,14 @@ pub enum CommandRefusal {
     StatusNotAllowed,
     FlagsMalformed,
     WrongTime,
+}
+
+// Why mending is refused.
+pub enum MendRefusal {
+    OutsideRules,
+    StatusNotAllowed,
+    WrongTime,
+    NoMarkFits,
 }
 
 // What a release sheet is: accepted, or refused, with the number of its line, counted from 1.
@@ -178,6 +186,17 @@ pub fn of_command(r: CommandRefusal) -> u32
         CommandRefusal::StatusNotAllowed => 10,
         CommandRefusal::FlagsMalformed => 11,
         CommandRefusal::WrongTime => 14,
+    }
+}
+
+pub fn of_mend(r: MendRefusal) -> u32
+    ensures { λ n. ⌜ n ≡ mendNumber r ⌝ }
+{
+    match r {
+        MendRefusal::OutsideRules => 1,
+        MendRefusal::StatusNotAllowed => 10,
+        MendRefusal::WrongTime => 14,
+        MendRefusal::NoMarkFits => 17,
     }
 }
 
