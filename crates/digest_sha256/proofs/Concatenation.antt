@@ -4,7 +4,7 @@ use mathlib.Core.List.{List, [], _∷_, _++_, append-assoc, append-nil}
 use Prim.Native.Nat.{ℕ, zero, suc, _+_, _-_, _*_, _/_, _%_, _^_, _≤_}
 use native.Mathlib.Nat.{add-zero, add-suc}
 use native.Mathlib.Omega.{arith}
-use lib.ListN.{length, take, drop, replicate, length-append, length-drop}
+use lib.ListN.{length, take, drop, replicate, length-append, length-drop, drop-of-length-le}
 use lib.Seq.{take-at, length-take-le, take-append-le, drop-append-le, drop-drop}
 use Rattle.digest_sha256.specs.declared.Hasher.{Hasher}
 use Rattle.digest_fips180.specs.Sha256.{block, words, zeros, bigEndian, padding, pad, H0, compress, hash, bytes, sha256}
@@ -101,6 +101,20 @@ after-front h a b n =
 pub after-blocks : (h m : List ℕ) (n : ℕ) → digestAfter (hash h m (length m / 64)) (drop (64 * (length m / 64)) m) n ≡ digestAfter h m n
 unfolding digestAfter settle
 after-blocks h m n = ap (λ (d : Hasher). bytes (d .words)) (settle-front h m (padding n) 0)
+
+-- where a is whole blocks nothing of it is left: b is hashed, or digested, from its hash value on
+none-left : (a : List ℕ) → length a % 64 ≡ 0 → drop (64 * (length a / 64)) a ≡ []
+none-left a z = drop-of-length-le a {i = 64 * (length a / 64)} (omega arith)
+
+pub hash-on : (h a b : List ℕ) → length a % 64 ≡ 0 → hash (hash h a (length a / 64)) b (length b / 64) ≡ hash h (a ++ b) (length (a ++ b) / 64)
+unfolding settle
+hash-on h a b z =
+    ap (λ (x : List ℕ). hash (hash h a (length a / 64)) (x ++ b) (length (x ++ b) / 64)) (sym (none-left a z))
+    ∙ ap (λ (d : Hasher). d .words) (settle-front h a b 0)
+
+pub after-whole : (h a b : List ℕ) (n : ℕ) → length a % 64 ≡ 0 → digestAfter (hash h a (length a / 64)) b n ≡ digestAfter h (a ++ b) n
+after-whole h a b n z =
+    ap (λ (x : List ℕ). digestAfter (hash h a (length a / 64)) (x ++ b) n) (sym (none-left a z)) ∙ after-front h a b n
 
 -- the message in one place
 pub digest-law : (m : List ℕ) → digestAfter H0 m (length m) ≡ sha256 m

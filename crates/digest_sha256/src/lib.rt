@@ -7,7 +7,7 @@ ghost use Rattle.digest_fips180.specs.Sha256 as fips;
 ghost use Rattle.digest_sha256.specs.Parts as parts;
 
 // 5.3.3: the initial hash value.
-const H0: [u32; 8] = [
+pub const H0: [u32; 8] = [
     0x6a09e667,
     0xbb67ae85,
     0x3c6ef372,
@@ -113,7 +113,7 @@ fn digest_pending(h: [u32; 8], pending: [u8; 64], count: u64) -> [u8; 32]
     ensures { λ r. ⌜ r ≡ parts.digestAfter h (take (count % 64) (pending ++ replicate 64 0)) count ⌝ }
 {
     let fill = (count % 64) as usize;
-    digest_after(h, &pending[..fill], count)
+    digest_from(h, &pending[..fill], count)
 }
 
 // The digest of a message of `count` bytes, of the hash value after its whole blocks and the bytes that are left. The padding of
@@ -138,7 +138,7 @@ fn digest_after(h: [u32; 8], rest: &[u8], count: u64) -> [u8; 32]
 }
 
 // The digest of a message of `count` bytes, of the hash value after its first blocks and the bytes behind them.
-fn digest_from(h: [u32; 8], rest: &[u8], count: u64) -> [u8; 32]
+pub fn digest_from(h: [u32; 8], rest: &[u8], count: u64) -> [u8; 32]
     requires { ⌜ length (now rest) % 64 ≡ count % 64 ⌝ }
     ensures { λ r. ⌜ r ≡ parts.digestAfter h (now (rest .entry)) count ⌝ }
 {

@@ -55,7 +55,7 @@ module _ (g : Geometry) (G : Limits g) where
   pub flag-place : (i : ℕ) → i < firmware g → (firmware g * g .size ≤ flagByte g i) × (flagByte g i + 1 < partitionSize g)
   flag-place i h = flags-in-trailer g (G .few) (omega (arith, G .small)) .0 (G .trailer) i h
 
-  same-flag-byte : (i j : ℕ) → i ≤ firmware g → j ≤ firmware g → flagByte g i ≡ flagByte g j → i / 2 ≡ j / 2
+  pub same-flag-byte : (i j : ℕ) → i ≤ firmware g → j ≤ firmware g → flagByte g i ≡ flagByte g j → i / 2 ≡ j / 2
   unfolding flagByte
   same-flag-byte i j hi hj e = omega (arith, size-split g G, G .trailer, G .small, mul-le-mul-right (g .size) (some-firmware g G))
 

@@ -19,16 +19,16 @@ use Rattle.exchange.specs.Demand.{ReadsFirmware}
 use Rattle.mending.specs.Marks.{marksFrom, marks}
 use Rattle.mending.specs.OldImages.{joined, oldPartition, fitsMark}
 use Rattle.mending.specs.Mending.{firstFitting, found, setFlagsTo, differing, mending}
-use Rattle.mending.specs.Witness.{firstByte, filled, armed, early, late, notNewer, Witness}
+use Rattle.mending.specs.Witness.{byVersion, firstByte, overBad, filled, armed, early, late, notNewer, closing, Witness}
 
 reads : ReadsFirmware firstByte three
 unfolding firmware
 reads l l′ L L′ e =
-    ap gives (sym (getD-take 512 l 0 0 (omega arith)) ∙ ap (λ (x : List ℕ). getD x 0 0) e ∙ getD-take 512 l′ 0 0 (omega arith))
+    ap byVersion (sym (getD-take 512 l 0 0 (omega arith)) ∙ ap (λ (x : List ℕ). getD x 0 0) e ∙ getD-take 512 l′ 0 0 (omega arith))
 
 pub witness : Witness
 unfolding
-    armed early late notNewer filled
+    overBad closing armed early late notNewer filled
     decide fits partitionFits withinLimits statusByte bootStatusOf updateStatusOf flagsAt flagsShown pastZeros allF flags flagsFrom flagAt half flagByte flagOf firmware
     powerUp run step nextOperation erased patch part setFlag withHalf
     mending found firstFitting marks marksFrom fitsMark oldPartition joined setFlagsTo differing
@@ -40,6 +40,9 @@ witness = record {
   mends = refl;
   leaves = refl;
   none = refl;
+  bad = refl;
+  lastMark = refl;
+  lastLeaves = refl;
   earlier = refl;
   other = refl;
   began = refl;

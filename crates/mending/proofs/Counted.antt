@@ -5,17 +5,20 @@ use mathlib.Core.List.{List}
 use Prim.Native.Nat.{ℕ, zero, suc, _+_, _-_, _*_, _/_, _≤_, _<_}
 use native.Mathlib.Omega.{arith}
 use lib.ListN.{getD}
-use borrow.Author.Tests.{eq-eqb}
+use borrow.Author.Tests.{eq-eqb, ne-eqb}
 use Rattle.flash.specs.declared.Geometry.{Geometry}
 use Rattle.flash.specs.Sizes.{firmware, partitionSize, Limits}
 use Rattle.flash.proofs.Checked.{size-split}
 use Rattle.flash_flags.specs.SectorFlags.{flagByte}
 use Rattle.flash_flags.proofs.Laws.{flag-place}
 use Rattle.mending.specs.Mending.{differs, differing, changed}
-use Rattle.mending.specs.Mended.{bytesDiffering}
+use Rattle.mending.specs.Mended.{bytesDiffering, DiffersTells}
 
 same-byte : (a b : ℕ) → a ≡ b → differs a b ≡ 0
 same-byte a b e = rw (eq-eqb a b e)
+
+pub differs-tells : DiffersTells
+differs-tells = record { same = λ a. same-byte a a refl; other = λ a b h. rw (ne-eqb a b h) }
 
 module _ (g : Geometry) (G : Limits g) (u v : List ℕ) (E : (p : ℕ) → ((i : ℕ) → i < firmware g → p ≢ flagByte g i) → getD v p 0 ≡ getD u p 0) where
   other-byte : (p : ℕ) → ((i : ℕ) → i < firmware g → p ≢ flagByte g i) → differs (getD u p 0) (getD v p 0) ≡ 0

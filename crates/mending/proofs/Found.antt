@@ -15,7 +15,7 @@ use Rattle.flash_status.specs.declared.UpdateStatus.the-variants.{New as Update
 use Rattle.flash_status.specs.StatusBytes.{statusPlace, statusByte, bootStatusAt, updateStatusOf, updateStatusAt}
 use Rattle.exchange.specs.Decision.{Check}
 use Rattle.exchange.specs.Commands.{withStatuses, checked}
-use Rattle.exchange.specs.Demand.{update, Underway, from-new, from-success}
+use Rattle.exchange.specs.Demand.{ReadsFirmware, update, Underway, from-new, from-success}
 use Rattle.exchange.specs.RuledOut.{StatusBad, inBoot, inUpdate}
 use Rattle.flash.proofs.Checked.{shaped-of}
 use Rattle.flash_flags.proofs.Laws.{flag-place}
@@ -24,9 +24,9 @@ use Rattle.mending.specs.declared.Mark.{Mark}
 use Rattle.mending.specs.Marks.{marks}
 use Rattle.mending.specs.OldImages.{fitsMark}
 use Rattle.mending.specs.Mending.{firstFitting, mayMend, found, setFlags, changed, Given, given, Mend, withMark, mending}
-use Rattle.mending.specs.Mended.{GivesFirst, MayMend, NoneFits, SeventeenIfNone, RefusedBefore, RefusesInOrder, MendNumber, outsideRules, statusNotAllowed, wrongTime, noMarkFits, RefusesWith, ButFlags, OnlyFlags, WritesFlags, bytesDiffering, CountsBytes, FlagsNotRead}
-use Rattle.mending.proofs.Order.{given-first, refused-none, none-refused}
-use Rattle.mending.proofs.Images.{true-fits, false-not, not-false, but-fits}
+use Rattle.mending.specs.Mended.{GivesIfFits, GivesFirst, MayMend, NoneFits, SeventeenIfNone, RefusedBefore, RefusesInOrder, MendNumber, outsideRules, statusNotAllowed, wrongTime, noMarkFits, RefusesWith, ButFlags, OnlyFlags, WritesFlags, bytesDiffering, CountsBytes, FlagsNotRead, markOf}
+use Rattle.mending.proofs.Order.{given-first, refused-none, none-refused, before-moves, some-given}
+use Rattle.mending.proofs.Images.{fits-true, true-fits, false-not, not-false, but-fits}
 use Rattle.mending.proofs.Counted.{all-counted}
 use Rattle.mending.proofs.Written.{only-flags}
 
@@ -154,8 +154,15 @@ gives-first check g f k n e =
       record {
         among = y .among;
         fit = true-fits check g f k (y .fits);
-        first = λ j h l. false-not check g f j (y .before j h (omega arith) l);
+        first = λ j h l. false-not check g f j (y .before j h (omega arith) (before-moves (firmware g) j k h (y .among) l));
       },
+    )
+
+pub gives-if-fits : GivesIfFits
+gives-if-fits check g f j M h F =
+    let r = some-given (fitsMark check g f) (firmware g) j h (fits-true check g f j F) in (
+      given (r .mark) (changed g (f .update) (setFlags g (r .mark) (f .update))),
+      ap (λ (z : Mend). z .answer) (mend-by check g f (gives (r .mark)) (found-by check g f M ∙ r .gave)),
     )
 
 pub seventeen-if-none : SeventeenIfNone
@@ -297,9 +304,9 @@ module _ (g : Geometry) (f f′ : Flash) (E : ButFlags g f f′) where
     readUpdate = but-status ((may-shaped M) .limits) ∙ M .readUpdate;
   }
 
-pub flags-not-read : FlagsNotRead
+pub same-found : (check : Check) (g : Geometry) (f f′ : Flash) → ReadsFirmware check g → ButFlags g f f′ → found check g f′ ≡ found check g f
 unfolding found
-flags-not-read check g f f′ R E = by (fits g f) refl
+same-found check g f f′ R E = by (fits g f) refl
   where
     by : (t : Bool) → fits g f ≡ t → found check g f′ ≡ found check g f
     by true e =
@@ -307,3 +314,14 @@ flags-not-read check g f f′ R E = by (fits g f) refl
         let q : fitsMark check g f′ ≡ fitsMark check g f = λ i k. but-fits g f f′ S E check R k i in
         ap₂ (λ (c : Answer (Unit {0})) (p : Mark → Bool). then c (λ t. firstFitting p (marks (firmware g)))) (but-checked g f f′ E (S .limits)) q
     by false e = rw (but-fit g f f′ E, e)
+
+mark-found : (check : Check) (g : Geometry) (f : Flash) → markOf (mending check g f .answer) ≡ found check g f
+unfolding mending
+mark-found check g f = by (found check g f)
+  where
+    by : (r : Answer Mark) → markOf (withMark g f r .answer) ≡ r
+    by (gives k) = refl
+    by (refused n p) = refl
+
+pub flags-not-read : FlagsNotRead
+flags-not-read check g f f′ R E = mark-found check g f′ ∙ same-found check g f f′ R E ∙ sym (mark-found check g f)

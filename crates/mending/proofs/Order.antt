@@ -1,5 +1,6 @@
 -- Marks: their flags, their order, and the first that fits.
 use mathlib.Core.Path.{_≡_, refl, sym, ap, _∙_, subst}
+use mathlib.Core.Logic.{_≢_, _⊎_, inl, inr}
 use mathlib.Core.Bool.{Bool, true, false, cond}
 use mathlib.Core.List.{List, [], _∷_}
 use Prim.Native.Nat.{ℕ, zero, suc, _+_, _-_, _*_, _/_, _%_, _≤_, _<_}
@@ -20,7 +21,8 @@ use Rattle.mending.specs.declared.Mark.{Mark}
 use Rattle.mending.specs.declared.Mark.the-variants.{At, All0}
 use Rattle.mending.specs.Marks.{Among, flagUnder, movesOf, marksFrom, marks, sectorNamed, flagNamed}
 use Rattle.mending.specs.Mending.{firstFitting}
-use Rattle.mending.specs.Mended.{MarksInOrder, NamesTell}
+use Rattle.exchange.specs.Demand.{flagRank}
+use Rattle.mending.specs.Mended.{MarksInOrder, NamesTell, NamesTellAll, Before, movesBehind, MovesOfFlags}
 
 -- ---- flags and moves
 
@@ -149,21 +151,64 @@ same-shown SwapToBoot UpdateToSwap e = absurd (let z : _≡_ {A = ℕ} 0 1 = cc 
 same-shown SwapToBoot BootToUpdate e = absurd (let z : _≡_ {A = ℕ} 0 1 = cc in omega arith)
 same-shown SwapToBoot SwapToBoot e = refl
 
-same-named : (m : ℕ) (j k : Mark) → Among m j → Among m k → sectorNamed m j ≡ sectorNamed m k → flagNamed j ≡ flagNamed k → j ≡ k
-same-named m (At i leg) (At i′ leg′) h h′ e v =
-    let s : i ≡ i′ = ap sectorNumber e in
-    let l : leg ≡ leg′ = same-shown leg leg′ v in
-    cc
-same-named m (At i leg) All0 h h′ e v = absurd (omega arith)
-same-named m All0 (At i leg) h h′ e v = absurd (omega arith)
-same-named m All0 All0 h h′ e v = refl
+leg-not-0 : (leg : Leg) → legFlag leg ≢ Exchanged
+leg-not-0 UpdateToSwap e = let z : _≡_ {A = ℕ} 0 1 = cc in omega arith
+leg-not-0 BootToUpdate e = let z : _≡_ {A = ℕ} 0 1 = cc in omega arith
+leg-not-0 SwapToBoot e = let z : _≡_ {A = ℕ} 0 1 = cc in omega arith
 
-named-shown : (m : ℕ) (k : Mark) → Among m k → flagUnder k (sectorNamed m k) ≡ flagNamed k
-named-shown m (At j leg) h = flag-there j leg (j .0) refl
-named-shown m All0 h = refl
+pub names-tell : NamesTellAll
+names-tell m (At j leg) h = record {
+  before = λ i l. flag-before j leg i l;
+  there = λ l. (flag-there j leg (j .0) refl, leg-not-0 leg);
+  behind = λ i l q. flag-behind j leg i l;
+  none = λ l. absurd (omega arith);
+}
+names-tell m All0 h = record {
+  before = λ i l. refl;
+  there = λ l. absurd (omega arith);
+  behind = λ i l q. absurd (omega arith);
+  none = λ l. (refl, refl);
+}
 
-pub names-tell : (m : ℕ) → NamesTell m
-names-tell m = record { apart = same-named m; shown = named-shown m }
+rank-leg : (leg : Leg) → flagRank (legFlag leg) ≡ legMoves leg
+rank-leg UpdateToSwap = refl
+rank-leg BootToUpdate = refl
+rank-leg SwapToBoot = refl
+
+pub before-moves : (m : ℕ) (j k : Mark) → Among m j → Among m k → Before m j k → movesOf m j < movesOf m k
+before-moves m (At i leg) (At i′ leg′) h h′ (inl l) = omega (arith, leg-below leg, leg-below leg′)
+before-moves m (At i leg) (At i′ leg′) h h′ (inr (e, l)) = omega (arith, l, rank-leg leg, rank-leg leg′)
+before-moves m (At i leg) All0 h h′ b = omega (arith, leg-below leg)
+before-moves m All0 (At i leg) h h′ (inl l) = absurd (omega arith)
+before-moves m All0 (At i leg) h h′ (inr (e, l)) = absurd (omega arith)
+before-moves m All0 All0 h h′ (inl l) = absurd (omega arith)
+before-moves m All0 All0 h h′ (inr (e, l)) = absurd (omega arith)
+
+behind-all : (n : ℕ) → movesBehind All0 n ≡ 3 * n
+unfolding movesBehind
+behind-all zero = refl
+behind-all (suc n) = omega (arith, behind-all n)
+
+behind-up : (j : SectorNumber) (leg : Leg) (n : ℕ) → n ≤ j .0 → movesBehind (At j leg) n ≡ 3 * n
+unfolding movesBehind
+behind-up j leg zero h = refl
+behind-up j leg (suc n) h = omega (arith, behind-up j leg n (omega arith), ap flagRank (flag-before j leg n (omega arith)))
+
+behind-step : (k : Mark) (n : ℕ) → movesBehind k (suc n) ≡ movesBehind k n + flagRank (flagUnder k n)
+unfolding movesBehind
+behind-step k n = refl
+
+behind-past : (j : SectorNumber) (leg : Leg) (d n : ℕ) → n ≡ d + j .0 → movesBehind (At j leg) (suc n) ≡ 3 * j .0 + legMoves leg
+behind-past j leg zero n e =
+    omega (arith, behind-step (At j leg) n, behind-up j leg n (omega arith), ap flagRank (flag-there j leg n (omega arith)), rank-leg leg)
+behind-past j leg (suc d) zero e = absurd (omega arith)
+behind-past j leg (suc d) (suc n) e =
+    omega (arith, behind-step (At j leg) (suc n), behind-past j leg d n (omega arith), ap flagRank (flag-behind j leg (suc n) (omega arith)))
+
+pub moves-of-flags : MovesOfFlags
+moves-of-flags m All0 h = sym (behind-all m)
+moves-of-flags zero (At j leg) h = absurd (omega arith)
+moves-of-flags (suc n) (At j leg) h = sym (behind-past j leg (n - j .0) n (omega arith))
 
 -- ---- the first that fits
 

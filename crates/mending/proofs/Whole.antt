@@ -34,11 +34,11 @@ use Rattle.mending.specs.declared.Mark.{Mark}
 use Rattle.mending.specs.Marks.{Among, flagUnder, movesOf, marks}
 use Rattle.mending.specs.OldImages.{oldFlash, Fits, fitsMark}
 use Rattle.mending.specs.Mending.{firstFitting, found, setFlags, changed, given, Mend, mending}
-use Rattle.mending.specs.Mended.{ShownByTable, MendedSafe, FirstToFit, MayMend, ButFlags, OnlyFlags, ReadAs, GivesMark, SpoiledMends, StagesMend, MendsOnce}
+use Rattle.mending.specs.Mended.{ShownByTable, MendedOngoing, MendedSafe, FirstToFit, MayMend, ButFlags, OnlyFlags, ReadAs, GivesMark, SpoiledMends, StagesMend, MendsOnce}
 use Rattle.mending.proofs.Order.{flag-moved, moves-within, After, mark-after, Gives, some-given}
 use Rattle.mending.proofs.Images.{shown-by-tables, check-same, fits-true, but-shaped, but-get, but-fits}
 use Rattle.mending.proofs.Written.{set-again, none-changed}
-use Rattle.mending.proofs.Found.{found-by, found-mark, mend-found, mend-by, with-flags, flash-left, may-shaped, writes, but-status, but-may, flags-not-read, gives-first}
+use Rattle.mending.proofs.Found.{found-by, found-mark, mend-found, mend-by, with-flags, flash-left, may-shaped, writes, but-status, but-may, same-found, gives-first}
 
 -- ---- demand 3 from the mended state
 
@@ -105,15 +105,16 @@ module _ (check : Check) (g : Geometry) (f : Flash) (k : Mark) (R : ReadsFirmwar
         newer = N .newer;
       }
 
-pub mended-safe : MendedSafe
-mended-safe check g f k n R e es h =
+pub mended-under-way : MendedOngoing
+mended-under-way check g f k n R e =
     let q : found check g f ≡ gives k = mend-found check g f k n e in
     let F : FirstToFit check g f k = (gives-first check g f k n e) .1 in
-    let p : mending check g f .flash ≡ with-flags g k f = flash-left check g f k q in
-    demand-3-ongoing check update g (oldFlash g k f) (mending check g f .flash) (movesOf (firmware g) k) R
-    (subst (λ (y : Flash). Ongoing check update g (oldFlash g k f) y (movesOf (firmware g) k)) (sym p)
-    (mended-ongoing check g f k R ((found-mark check g f k q) .may) (F .fit) (F .among)))
-    es h
+    subst (λ (y : Flash). Ongoing check update g (oldFlash g k f) y (movesOf (firmware g) k)) (sym (flash-left check g f k q))
+    (mended-ongoing check g f k R ((found-mark check g f k q) .may) (F .fit) (F .among))
+
+pub mended-safe : MendedSafe
+mended-safe check g f k n R e es h =
+    demand-3-ongoing check update g (oldFlash g k f) (mending check g f .flash) (movesOf (firmware g) k) R (mended-under-way check g f k n R e) es h
 
 -- ---- what is gained
 
@@ -195,7 +196,7 @@ stages-mend check g f₀ a f R s h E =
 pub mends-once : MendsOnce
 mends-once check g f k n R e =
     subst (λ (y : Flash). mending check g y ≡ record { answer = gives (given k 0); flash = y }) (sym (flash-left check g f k q))
-    (mend-by check g (with-flags g k f) (gives k) (flags-not-read check g f (with-flags g k f) R (O .rest) ∙ q)
+    (mend-by check g (with-flags g k f) (gives k) (same-found check g f (with-flags g k f) R (O .rest) ∙ q)
     ∙ ap (λ (u : List ℕ). record { answer = gives (given k (changed g (setFlags g k (f .update)) u)); flash = flash (f .boot) u (f .swap) }) again
     ∙ ap (λ (c : ℕ). record { answer = gives (given k c); flash = with-flags g k f }) (none-changed g (setFlags g k (f .update))))
   where

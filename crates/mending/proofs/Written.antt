@@ -57,18 +57,18 @@ set-same g u i v e =
 -- ---- sector by sector
 
 module _ (g : Geometry) (G : Limits g) (k : Mark) (u : List ℕ) (U : length u ≡ partitionSize g) where
-  length-to : (n : ℕ) → n ≤ firmware g → length (setFlagsTo g k n u) ≡ length u
+  pub length-to : (n : ℕ) → n ≤ firmware g → length (setFlagsTo g k n u) ≡ length u
   unfolding setFlagsTo
   length-to zero h = refl
   length-to (suc n) h =
       let e : length (setFlagsTo g k n u) ≡ length u = length-to n (omega arith) in
       length-flag g G (setFlagsTo g k n u) (e ∙ U) n (flagUnder k n) (omega arith) ∙ e
 
-  byte-to : (n : ℕ) → n ≤ firmware g → (p : ℕ) → ((i : ℕ) → i < firmware g → p ≢ flagByte g i) → getD (setFlagsTo g k n u) p 0 ≡ getD u p 0
+  pub byte-to : (n : ℕ) → n ≤ firmware g → (p : ℕ) → ((i : ℕ) → i < n → p ≢ flagByte g i) → getD (setFlagsTo g k n u) p 0 ≡ getD u p 0
   unfolding setFlagsTo
   byte-to zero h p q = refl
   byte-to (suc n) h p q =
-      byte-flag g G (setFlagsTo g k n u) (length-to n (omega arith) ∙ U) n (flagUnder k n) (omega arith) p 0 (q n (omega arith)) ∙ byte-to n (omega arith) p q
+      byte-flag g G (setFlagsTo g k n u) (length-to n (omega arith) ∙ U) n (flagUnder k n) (omega arith) p 0 (q n (omega arith)) ∙ byte-to n (omega arith) p (λ i l. q i (omega arith))
 
   half-to : (n : ℕ) → n ≤ firmware g → half (firmware g) (getD (setFlagsTo g k n u) (flagByte g (firmware g)) 0) ≡ half (firmware g) (getD u (flagByte g (firmware g)) 0)
   unfolding setFlagsTo

@@ -1,11 +1,11 @@
 -- What is claimed of mending, for every image check. Each statement is proved in proofs/.
 use mathlib.Core.Path.{_≡_}
-use mathlib.Core.Logic.{_≢_, _↔_}
+use mathlib.Core.Logic.{_≢_, _↔_, _⊎_}
 use mathlib.Core.Bool.{true, false}
 use mathlib.Core.List.{List}
 use Prim.Native.Nat.{ℕ, zero, suc, _+_, _*_, _≤_, _<_}
 use lib.ListN.{length, getD}
-use Rattle.numbers.specs.Answer.{gives, refused}
+use Rattle.numbers.specs.Answer.{Answer, gives, refused, then}
 use Rattle.flash.specs.declared.Geometry.{Geometry}
 use Rattle.flash.specs.Sizes.{firmware, partitionSize}
 use Rattle.flash.specs.Sectors.{sectorNumber}
@@ -14,6 +14,7 @@ use Rattle.flash_status.specs.declared.BootStatus.{BootStatus}
 use Rattle.flash_status.specs.declared.UpdateStatus.{UpdateStatus}
 use Rattle.flash_status.specs.declared.UpdateStatus.the-variants.{Updating}
 use Rattle.flash_status.specs.StatusBytes.{bootStatusAt, updateStatusAt}
+use Rattle.flash_flags.specs.declared.Flag.the-variants.{Untouched, Exchanged}
 use Rattle.flash_flags.specs.declared.FlagRead.the-variants.{Known}
 use Rattle.flash_flags.specs.declared.Leg.{Leg}
 use Rattle.flash_flags.specs.declared.Leg.the-variants.{UpdateToSwap}
@@ -22,13 +23,13 @@ use Rattle.exchange.specs.declared.Area.the-variants.{Boot, Update}
 use Rattle.exchange.specs.Operations.{get, oldBootIn, oldUpdateIn}
 use Rattle.exchange.specs.Decision.{Check}
 use Rattle.exchange.specs.PowerUp.{powerUp}
-use Rattle.exchange.specs.Demand.{update, Underway, Finished, Starts, ReadsFirmware, Event, Allowed, left, flashAfter, Safe}
+use Rattle.exchange.specs.Demand.{flagRank, update, Underway, Finished, Starts, Ongoing, ReadsFirmware, Event, Allowed, left, flashAfter, Safe}
 use Rattle.exchange.specs.RuledOut.{StatusBad}
 use Rattle.mending.specs.declared.Mark.{Mark}
 use Rattle.mending.specs.declared.Mark.the-variants.{At, All0}
 use Rattle.mending.specs.Marks.{Among, flagUnder, movesOf, marks, sectorNamed, flagNamed}
 use Rattle.mending.specs.OldImages.{oldFlash, Fits}
-use Rattle.mending.specs.Mending.{found, differs, Given, given, mending}
+use Rattle.mending.specs.Mending.{differs, Given, given, mending}
 
 -- ---- the marks
 
@@ -38,10 +39,29 @@ pub record MarksInOrder : Type 0 where
   pub howMany : (m : ℕ) → length (marks m) ≡ 3 * m + 1
   pub each : (m : ℕ) (k : Mark) → Among m k → getD (marks m) (movesOf m k) (At (sectorNumber m) UpdateToSwap) ≡ k
 
--- A mark's name: no two marks have the same, and the flag that it names is that sector's under the mark, where there is such a sector.
-pub record NamesTell (m : ℕ) : Type 0 where
-  pub apart : (j k : Mark) → Among m j → Among m k → sectorNamed m j ≡ sectorNamed m k → flagNamed j ≡ flagNamed k → j ≡ k
-  pub shown : (k : Mark) → Among m k → flagUnder k (sectorNamed m k) ≡ flagNamed k
+-- A mark's name, in document 02's words: 0 before the sector that is named; there the flag that is named, which is F, 7 or 3; F after it. Only
+-- all 0 has no such sector, and is named m and 0. So no two marks have the same name.
+pub record NamesTell (m : ℕ) (k : Mark) : Type 0 where
+  pub before : (i : ℕ) → i < sectorNamed m k → flagUnder k i ≡ Exchanged
+  pub there : sectorNamed m k < m → (flagUnder k (sectorNamed m k) ≡ flagNamed k) × (flagNamed k ≢ Exchanged)
+  pub behind : (i : ℕ) → sectorNamed m k < i → i < m → flagUnder k i ≡ Untouched
+  pub none : m ≤ sectorNamed m k → (sectorNamed m k ≡ m) × (flagNamed k ≡ Exchanged)
+
+abbrev pub NamesTellAll : Type 0
+NamesTellAll = (m : ℕ) (k : Mark) → Among m k → NamesTell m k
+
+-- "ordered by sector, then F, 7, 3, with all 0 last": the mark j comes before k.
+abbrev pub Before : ℕ → Mark → Mark → Type 0
+Before m j k =
+    (sectorNamed m j < sectorNamed m k) ⊎ ((sectorNamed m j ≡ sectorNamed m k) × (flagRank (flagNamed j) < flagRank (flagNamed k)))
+
+-- "every move that the mended flags have behind them": those of the first n sectors' flags under a mark.
+unfoldable pub movesBehind : Mark → ℕ → ℕ
+movesBehind k zero = 0
+movesBehind k (suc n) = movesBehind k n + flagRank (flagUnder k n)
+
+abbrev pub MovesOfFlags : Type 0
+MovesOfFlags = (m : ℕ) (k : Mark) → Among m k → movesOf m k ≡ movesBehind k m
 
 -- ---- the old images
 
@@ -68,13 +88,19 @@ pub record MayMend (g : Geometry) (f : Flash) : Type 0 where
 pub record FirstToFit (check : Check) (g : Geometry) (f : Flash) (k : Mark) : Type 0 where
   pub among : Among (firmware g) k
   pub fit : Fits check g f k
-  pub first : (j : Mark) → Among (firmware g) j → movesOf (firmware g) j < movesOf (firmware g) k → ¬ Fits check g f j
+  pub first : (j : Mark) → Among (firmware g) j → Before (firmware g) j k → ¬ Fits check g f j
 
 -- The mark that is given is the first that fits.
 abbrev pub GivesFirst : Type 0
 GivesFirst =
     (check : Check) (g : Geometry) (f : Flash) (k : Mark) (n : ℕ) → mending check g f .answer ≡ gives (given k n)
     → MayMend g f × FirstToFit check g f k
+
+-- Where nothing is refused before and some mark fits, a mark is given.
+abbrev pub GivesIfFits : Type 0
+GivesIfFits =
+    (check : Check) (g : Geometry) (f : Flash) (j : Mark) → MayMend g f → Among (firmware g) j → Fits check g f j
+    → (r : Given) × (mending check g f .answer ≡ gives r)
 
 abbrev pub NoneFits : Check → Geometry → Flash → Type 0
 NoneFits check g f = (j : Mark) → Among (firmware g) j → ¬ Fits check g f j
@@ -130,6 +156,11 @@ WritesFlags =
     (check : Check) (g : Geometry) (f : Flash) (k : Mark) (n : ℕ) → mending check g f .answer ≡ gives (given k n)
     → OnlyFlags g f (mending check g f .flash) k
 
+-- A byte that is the same is not counted, and another one is counted once.
+pub record DiffersTells : Type 0 where
+  pub same : (a : ℕ) → differs a a ≡ 0
+  pub other : (a b : ℕ) → a ≢ b → differs a b ≡ 1
+
 -- The number that is given is that of all bytes of UPDATE which differ; here of the first n.
 unfoldable pub bytesDiffering : List ℕ → List ℕ → ℕ → ℕ
 bytesDiffering u v zero = 0
@@ -140,11 +171,23 @@ CountsBytes =
     (check : Check) (g : Geometry) (f : Flash) (k : Mark) (n : ℕ) → mending check g f .answer ≡ gives (given k n)
     → n ≡ bytesDiffering (f .update) (mending check g f .flash .update) (partitionSize g)
 
--- The flags are not looked at: whatever the flag bytes hold, the same mark is found, or the same refusal.
+-- The mark that an answer has, or its refusal.
+abbrev pub markOf : Answer Given → Answer Mark
+markOf a = then a (λ r. gives (r .mark))
+
+-- The flags are not looked at: whatever the flag bytes hold, the same mark is given, or the same refusal.
 abbrev pub FlagsNotRead : Type 0
-FlagsNotRead = (check : Check) (g : Geometry) (f f′ : Flash) → ReadsFirmware check g → ButFlags g f f′ → found check g f′ ≡ found check g f
+FlagsNotRead =
+    (check : Check) (g : Geometry) (f f′ : Flash) → ReadsFirmware check g → ButFlags g f f′
+    → markOf (mending check g f′ .answer) ≡ markOf (mending check g f .answer)
 
 -- ---- the mended state
+
+-- The mended flash is an update under way, of the images that the mark shows, with exactly the mark's moves behind it.
+abbrev pub MendedOngoing : Type 0
+MendedOngoing =
+    (check : Check) (g : Geometry) (f : Flash) (k : Mark) (n : ℕ) → ReadsFirmware check g → mending check g f .answer ≡ gives (given k n)
+    → Ongoing check update g (oldFlash g k f) (mending check g f .flash) (movesOf (firmware g) k)
 
 -- "Demand 3 then holds, its list starting from the mended state, for the images that the mark shows, with 9m three smaller for every
 -- move": the moves of the mended flags are behind the list.

@@ -9,25 +9,25 @@ use borrow.Author.Needs.{needs}
 use Rattle.digest_sha256.proofs.digest_pending.Statement.{statement}
 use Rattle.digest_sha256.proofs.digest_pending.Tie as tie
 
-slice-aggregate-digest-after : tie.Need-slice-aggregate-digest-after
-slice-aggregate-digest-after c =
+slice-aggregate-digest-from : tie.Need-slice-aggregate-digest-from
+slice-aggregate-digest-from c =
     let s = c .before in
     let l : length (s .args .t2) ≡ 64 = omega arith in
     sym (length-take-le (s .args .count % 64) (s .args .t2) (omega arith))
 
-digest-after-requires : tie.Need-digest-after-requires
-digest-after-requires c κs =
+digest-from-requires : tie.Need-digest-from-requires
+digest-from-requires c κs =
     let s = c .before in
     let l : length (s .args .t2) ≡ 64 = omega arith in
-    length-take-le (s .args .count % 64) (s .args .t2) (omega arith)
+    omega (arith, length-take-le (s .args .count % 64) (s .args .t2) (omega arith))
 
 returns : tie.Need-returns
 returns c =
     let s = c .before .before .args in
     let l : length (s .t2) ≡ 64 = omega arith in
-    c .digest-after .ensures
+    c .digest-from .ensures
     ∙ ap (λ (b : List ℕ). digestAfter (s .h) b (s .count)) (sym (take-append-le (s .count % 64) (s .t2) (replicate 64 0) (omega arith)))
 
 pub digest-pending-spec : {M : Type 1} → statement M
 digest-pending-spec =
-    tie.close (tie.spec (λ c. search needs) slice-aggregate-digest-after digest-after-requires returns)
+    tie.close (tie.spec (λ c. search needs) slice-aggregate-digest-from digest-from-requires returns)
