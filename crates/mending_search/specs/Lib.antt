@@ -1,0 +1,2 @@
+-- The search for the first mark that fits: what its functions answer.
+pub mod Search
