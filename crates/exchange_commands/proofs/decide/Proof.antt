@@ -1,7 +1,7 @@
 use mathlib.Core.Path.{sym, _∙_}
 use Rattle.flash_flags.specs.SectorFlags.{flagsAt}
 use Rattle.exchange_commands.specs.Inner.{mayDo}
-use Rattle.exchange_commands.proofs.Readings.{permit-allowed, permit-not}
+use Rattle.exchange.proofs.Statuses.{permit-allowed, permit-not}
 use borrow.Author.Needs.{needs}
 use Rattle.exchange_commands.proofs.decide.Statement.{statement}
 use Rattle.exchange_commands.proofs.decide.Tie as tie

@@ -1,0 +1,2 @@
+-- Mending by what its parts answered.
+pub mod Calls

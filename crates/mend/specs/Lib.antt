@@ -1,0 +1,3 @@
+-- Mending: what it promises, and what its own functions answer.
+pub mod Delivered
+pub mod Inner
