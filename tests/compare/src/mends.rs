@@ -72,12 +72,25 @@ impl Exchange {
         }
         tried.mended += 1;
         self.note(c, &at.flash, &spoiled, &row);
+        if !self.shows_images(&mended) {
+            c.fail("the mark shows other images than the exchange began with", &[&asked(g, &spoiled)]);
+        }
         if call(c, g, &mended) != (0, vec![row[0], row[1], 0], mended.clone()) {
             c.fail("mended flags are mended otherwise", &[&asked(g, &spoiled)]);
         }
         let job = Job::mended(c, g, mended);
         job.finish(c, &job.start());
         job.any_list(c, r);
+    }
+
+    /// Whether the images that the flags show are those that the exchange began with, up to their ends.
+    fn shows_images(&self, mended: &Flash) -> bool {
+        let start = self.job.start().flash;
+        let (boot, update) = old_images(self.g, mended, &mended.flags(self.g));
+        [(&start.boot, &boot), (&start.update, &update)].iter().all(|(old, shown)| {
+            let end = read_header(old).map_or(old.len(), |h| HEADER + h.size as usize);
+            old[..end] == shown[..end]
+        })
     }
 
     /// Where the mark is beside the stage that the exchange had come to: never behind it, since that one fits.
