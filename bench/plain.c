@@ -74,17 +74,24 @@ static void compress(uint32_t hash[8], const uint8_t *block)
     hash[7] += h;
 }
 
-void plain_sha256(const uint8_t *message, size_t len, uint8_t digest[32])
+/* The whole blocks of these bytes: how many bytes that are. */
+static size_t compress_whole(uint32_t hash[8], const uint8_t *bytes, size_t len)
 {
-    uint32_t hash[8];
-    memcpy(hash, H0, sizeof hash);
     size_t whole = len - len % 64;
     for (size_t at = 0; at < whole; at += 64) {
-        compress(hash, message + at);
+        compress(hash, bytes + at);
     }
+    return whole;
+}
+
+/* The digest of a message of this length, whose whole blocks are done and whose rest is given. */
+static void finish(uint32_t hash[8], const uint8_t *message_rest, size_t len, uint8_t digest[32])
+{
     uint8_t last[128] = {0};
-    size_t rest = len - whole;
-    memcpy(last, message + whole, rest);
+    size_t rest = len % 64;
+    if (rest > 0) {
+        memcpy(last, message_rest, rest);
+    }
     last[rest] = 0x80;
     size_t end = rest < 56 ? 64 : 128;
     uint64_t bits = (uint64_t)len * 8;
@@ -97,6 +104,14 @@ void plain_sha256(const uint8_t *message, size_t len, uint8_t digest[32])
     for (int i = 0; i < 32; i++) {
         digest[i] = (uint8_t)(hash[i / 4] >> (24 - 8 * (i % 4)));
     }
+}
+
+void plain_sha256(const uint8_t *message, size_t len, uint8_t digest[32])
+{
+    uint32_t hash[8];
+    memcpy(hash, H0, sizeof hash);
+    size_t whole = compress_whole(hash, message, len);
+    finish(hash, message + whole, len, digest);
 }
 
 /* ---- The header */
@@ -240,4 +255,108 @@ void plain_erase(uint8_t *sector, size_t size)
 void plain_copy(uint8_t *target, const uint8_t *source, size_t size)
 {
     memcpy(target, source, size);
+}
+
+/* ---- Mending */
+
+/* An old image, as its header states it, and its digest so far: of the firmware in the sectors that it has gone over. */
+struct image {
+    uint32_t size;
+    uint32_t version;
+    uint8_t digest[32];
+    uint32_t hash[8];
+    const uint8_t *rest;
+};
+
+/* Reads the header in sector 0, which the digest has yet to go over. */
+static int begin(struct image *image, const uint8_t *sector, size_t room)
+{
+    uint64_t numbers[6];
+    uint8_t bytes[128];
+    if (plain_read_header(sector, TAINHOSA_HEADER_LENGTH, numbers, bytes) != TAINHOSA_OK ||
+        numbers[TAINHOSA_HEADER_SIZE] > room - TAINHOSA_HEADER_LENGTH) {
+        return 0;
+    }
+    image->size = (uint32_t)numbers[TAINHOSA_HEADER_SIZE];
+    image->version = (uint32_t)numbers[TAINHOSA_HEADER_VERSION];
+    memcpy(image->digest, bytes + TAINHOSA_DIGEST_AT, sizeof image->digest);
+    memcpy(image->hash, H0, sizeof image->hash);
+    image->rest = NULL;
+    return 1;
+}
+
+/* Goes over the firmware of sector i, if there is any. A sector ends with a block, but for the firmware's last one. */
+static void go_over(struct image *image, const uint8_t *sector, size_t i, size_t size)
+{
+    const size_t end = TAINHOSA_HEADER_LENGTH + (size_t)image->size;
+    const size_t from = i == 0 ? TAINHOSA_HEADER_LENGTH : 0;
+    if (end > i * size + from) {
+        const size_t to = end < (i + 1) * size ? end - i * size : size;
+        image->rest = sector + from + compress_whole(image->hash, sector + from, to - from);
+    }
+}
+
+/* Whether the digest is the header's if sector i stands here, and those behind it in this partition. */
+static int is_good(const struct image *image, const uint8_t *here, const uint8_t *behind, size_t i, size_t size)
+{
+    const size_t end = TAINHOSA_HEADER_LENGTH + (size_t)image->size;
+    struct image whole = *image;
+    uint8_t digest[32];
+    go_over(&whole, here, i, size);
+    for (size_t j = i + 1; j * size < end; j++) {
+        go_over(&whole, behind + j * size, j, size);
+    }
+    finish(whole.hash, whole.rest, whole.size, digest);
+    return memcmp(digest, whole.digest, sizeof digest) == 0;
+}
+
+static uint32_t write_mark(size_t sectors, size_t size, uint8_t *update, size_t sector, uint8_t flag, uint64_t numbers[3])
+{
+    uint64_t changed = 0;
+    for (size_t i = 0; i + 1 < sectors; i += 2) {
+        uint8_t *p = update + sectors * size - 2 - i / 2;
+        const uint8_t low = i < sector ? 0x0 : i == sector ? flag : 0xF;
+        const uint8_t high = i + 1 < sector ? 0x0 : i + 1 == sector ? flag : 0xF;
+        const uint8_t byte = i + 2 < sectors ? (uint8_t)(high << 4 | low) : (uint8_t)((*p & 0xF0) | low);
+        changed += byte != *p;
+        *p = byte;
+    }
+    numbers[TAINHOSA_MEND_SECTOR] = sector;
+    numbers[TAINHOSA_MEND_FLAG] = flag;
+    numbers[TAINHOSA_MEND_CHANGED] = changed;
+    return TAINHOSA_OK;
+}
+
+uint32_t plain_mend(size_t sectors, size_t size, const uint8_t *boot, uint8_t *update, const uint8_t *swap, uint64_t numbers[3])
+{
+    static const uint8_t flags[3] = {TAINHOSA_FLAG_UNTOUCHED, TAINHOSA_FLAG_SAVED, TAINHOSA_FLAG_MOVED};
+    const size_t m = sectors - 1;
+    const size_t room = m * size;
+    struct image older;
+    struct image newer;
+    memset(numbers, 0, 3 * sizeof numbers[0]);
+    for (size_t i = 0; i < m; i++) {
+        const uint8_t *b = boot + i * size;
+        const uint8_t *u = update + i * size;
+        const uint8_t *const older_at[3] = {b, b, u};
+        const uint8_t *const newer_at[3] = {u, swap, swap};
+        for (int k = 0; k < 3; k++) {
+            if (i == 0 && (!begin(&older, older_at[k], room) || !begin(&newer, newer_at[k], room) || newer.version <= older.version)) {
+                continue;
+            }
+            if (is_good(&newer, newer_at[k], update, i, size) && is_good(&older, older_at[k], boot, i, size)) {
+                return write_mark(sectors, size, update, i, flags[k], numbers);
+            }
+        }
+        /* Sector i has changed sides in every mark behind it; in sector 0 the headers have. */
+        if (i == 0 && (!begin(&older, u, room) || !begin(&newer, b, room) || newer.version <= older.version)) {
+            return TAINHOSA_NO_MARK_FITS;
+        }
+        go_over(&older, u, i, size);
+        go_over(&newer, b, i, size);
+    }
+    if (is_good(&newer, swap, swap, m, size) && is_good(&older, swap, swap, m, size)) {
+        return write_mark(sectors, size, update, m, TAINHOSA_FLAG_EXCHANGED, numbers);
+    }
+    return TAINHOSA_NO_MARK_FITS;
 }

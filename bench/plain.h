@@ -18,6 +18,12 @@ uint32_t plain_read_header(const uint8_t *input, size_t len, uint64_t numbers[6]
 /* A good image: 1 and its version. */
 int plain_check_image(const uint8_t *partition, size_t room, uint32_t *version);
 
+/*
+ * Mending, on a flash whose lengths and statuses are right: the search, the flags and the three numbers of tainhosa_mend. Its answer is
+ * TAINHOSA_OK, or TAINHOSA_NO_MARK_FITS and no byte changes.
+ */
+uint32_t plain_mend(size_t sectors, size_t size, const uint8_t *boot, uint8_t *update, const uint8_t *swap, uint64_t numbers[3]);
+
 /* One erase and one copy. They stand in another file than the update, so that no compiler drops an erase before a copy. */
 void plain_erase(uint8_t *sector, size_t size);
 void plain_copy(uint8_t *target, const uint8_t *source, size_t size);

@@ -16,6 +16,9 @@
 
 enum { STACK = 256 * 1024, PAINT = 0xA5, SECTORS = TAINHOSA_SECTORS_MAX, SIZE = 4096, LENGTH = SECTORS * SIZE, STATUS = LENGTH - 1 };
 
+/* Mending looks at the images once for each mark: as many sectors, but small ones. */
+enum { MEND_SIZE = 512, MEND_LENGTH = SECTORS * MEND_SIZE, MEND_STATUS = MEND_LENGTH - 1 };
+
 static uint8_t stack[STACK];
 static ucontext_t here, there;
 static uint8_t boot[LENGTH], update[LENGTH], swap[SIZE], header[TAINHOSA_HEADER_LENGTH];
@@ -87,6 +90,11 @@ static void confirm(void)
     answer = tainhosa_confirm(SECTORS, SIZE, boot, LENGTH, update, LENGTH, swap, SIZE, numbers, 1);
 }
 
+static void mend(void)
+{
+    answer = tainhosa_mend(SECTORS, MEND_SIZE, boot, MEND_LENGTH, update, MEND_LENGTH, swap, MEND_SIZE, numbers, TAINHOSA_MEND_NUMBERS);
+}
+
 static void check_firmware(void)
 {
     answer = tainhosa_check_firmware(boot, LENGTH - SIZE, numbers, 6, bytes, 128);
@@ -115,7 +123,7 @@ static void make_sheet(void)
 
 /* ---- What each took */
 
-enum { READ_HEADER, CHECK_IMAGE, POWER_UP, ARM, CONFIRM, SHA256, WRITE_HEADER, NEXT_TAG, CHECK_FIRMWARE, READ_SHEET, MAKE_HEADER, CALLS };
+enum { READ_HEADER, CHECK_IMAGE, POWER_UP, ARM, CONFIRM, SHA256, WRITE_HEADER, NEXT_TAG, CHECK_FIRMWARE, READ_SHEET, MAKE_HEADER, MEND, CALLS };
 
 enum { WRITTEN, PADDED, KINDS };
 
@@ -128,7 +136,7 @@ static const struct {
     {"tainhosa_confirm", confirm},           {"tainhosa_sha256", sha256},
     {"tainhosa_write_header", write_header}, {"tainhosa_next_tag", next_tag},
     {"tainhosa_check_firmware", check_firmware}, {"tainhosa_read_sheet", read_sheet},
-    {"tainhosa_make_header", make_header},
+    {"tainhosa_make_header", make_header},   {"tainhosa_mend", mend},
 };
 
 static long most[KINDS][CALLS];
@@ -166,6 +174,62 @@ static void expect_outcome(uint64_t outcome)
 static void pad_header(uint8_t *p)
 {
     memset(p + TAINHOSA_FIRST_TAG, 0xFF, TAINHOSA_HEADER_LENGTH - TAINHOSA_FIRST_TAG);
+}
+
+/* An update on small sectors that lost power in this move of the middle sector, and then its flags. */
+static void lose_flags(unsigned move)
+{
+    make_image(boot, MEND_LENGTH, MEND_SIZE, 1);
+    make_image(update, MEND_LENGTH, MEND_SIZE, 2);
+    boot[MEND_STATUS] = TAINHOSA_STATUS_SUCCESS;
+    if (tainhosa_arm(SECTORS, MEND_SIZE, boot, MEND_LENGTH, update, MEND_LENGTH, swap, MEND_SIZE, numbers, 1) != TAINHOSA_OK ||
+        tainhosa_power_up(SECTORS, MEND_SIZE, boot, MEND_LENGTH, update, MEND_LENGTH, swap, MEND_SIZE, 9 * (SECTORS / 2) + 3 * move + 1,
+                          numbers, 6) != TAINHOSA_OK) {
+        fail("the update did not begin");
+    }
+    memset(update + MEND_STATUS - SECTORS / 2, 0x5A, SECTORS / 2);
+}
+
+static void expect_mark(uint64_t flag)
+{
+    if (numbers[TAINHOSA_MEND_SECTOR] != SECTORS / 2 || numbers[TAINHOSA_MEND_FLAG] != flag) {
+        fail("mending on the painted stack found another mark");
+    }
+}
+
+/* Each mark of a sector, none that fits, and none by the versions. */
+static void take_mends(void)
+{
+    lose_flags(0);
+    take(MEND, TAINHOSA_OK);
+    expect_mark(TAINHOSA_FLAG_UNTOUCHED);
+    lose_flags(1);
+    take(MEND, TAINHOSA_OK);
+    expect_mark(TAINHOSA_FLAG_SAVED);
+    lose_flags(2);
+    take(MEND, TAINHOSA_OK);
+    expect_mark(TAINHOSA_FLAG_MOVED);
+    update[TAINHOSA_HEADER_LENGTH] ^= 1;
+    boot[TAINHOSA_HEADER_LENGTH] ^= 1;
+    take(MEND, TAINHOSA_NO_MARK_FITS);
+    make_image(update, MEND_LENGTH, MEND_SIZE, 1);
+    update[MEND_STATUS] = TAINHOSA_STATUS_UPDATING;
+    make_image(boot, MEND_LENGTH, MEND_SIZE, 1);
+    take(MEND, TAINHOSA_NO_MARK_FITS);
+}
+
+/* A header of padding in BOOT, in UPDATE, and in SWAP too. */
+static void take_padded_mends(void)
+{
+    lose_flags(0);
+    pad_header(boot);
+    take(MEND, TAINHOSA_NO_MARK_FITS);
+    lose_flags(0);
+    pad_header(update);
+    take(MEND, TAINHOSA_NO_MARK_FITS);
+    pad_header(boot);
+    pad_header(swap);
+    take(MEND, TAINHOSA_NO_MARK_FITS);
 }
 
 int main(void)
@@ -228,6 +292,11 @@ int main(void)
     pad_header(boot);
     take(CHECK_IMAGE, TAINHOSA_NO_END);
     take(POWER_UP, TAINHOSA_BAD_BOOT);
+
+    kind = WRITTEN;
+    take_mends();
+    kind = PADDED;
+    take_padded_mends();
 
     print_all();
     return 0;

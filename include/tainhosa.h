@@ -29,7 +29,7 @@ extern "C" {
 /* ---- The version of this interface, and its number: 10000 for each major, 100 for each minor */
 
 #define TAINHOSA_VERSION_MAJOR 0
-#define TAINHOSA_VERSION_MINOR 3
+#define TAINHOSA_VERSION_MINOR 4
 #define TAINHOSA_VERSION_PATCH 0
 #define TAINHOSA_VERSION_NUMBER (TAINHOSA_VERSION_MAJOR * 10000 + TAINHOSA_VERSION_MINOR * 100 + TAINHOSA_VERSION_PATCH)
 
@@ -56,9 +56,10 @@ extern "C" {
 #define TAINHOSA_FLAGS_MALFORMED 11   /* sector flags that no exchange leaves */
 #define TAINHOSA_BAD_BOOT 12          /* with the image's own number and place */
 #define TAINHOSA_NO_FALLBACK 13       /* with the image's own number and place */
-#define TAINHOSA_WRONG_TIME 14        /* arm or confirm when it is not allowed */
+#define TAINHOSA_WRONG_TIME 14        /* arm, confirm or mend when it is not allowed */
 #define TAINHOSA_NOT_NEWER 15         /* only as the reason why an update was turned down */
 #define TAINHOSA_SHORT_HEADER 16      /* fewer than 256 bytes to read or write a header; at 0 */
+#define TAINHOSA_NO_MARK_FITS 17      /* lost flags that can't be found: under none are both images good and the update newer */
 
 /* Of a release sheet; the line, counted from 1, stands for the place. */
 #define TAINHOSA_LINE_NOT_UNDERSTOOD 101 /* no space in it */
@@ -315,6 +316,31 @@ TAINHOSA_CALL uint32_t tainhosa_confirm(size_t sectors, size_t size,
                                         uint8_t *swap, size_t swap_length,
                                         uint64_t *count, size_t count_length);
 
+/* What mending answers: a row of 3, all 0 beside a refusal. The place of each refusal is 0. */
+#define TAINHOSA_MEND_NUMBERS 3
+#define TAINHOSA_MEND_SECTOR 0        /* the mark: its sector and the flag there; of the mark that is all 0, sectors - 1 and 0 */
+#define TAINHOSA_MEND_FLAG 1
+#define TAINHOSA_MEND_CHANGED 2       /* how many of the bytes that hold flags differ from before; it may be 0 */
+
+/*
+ * Writes the sector flags of an update again, where they were spoiled: UPDATE has to be UPDATING, and BOOT NEW or SUCCESS. The flags
+ * that stand there are not read; what decides is where the images are.
+ * A mark is a sector with F, 7 or 3 as its flag, 0 before it and F behind it; one more mark is all 0. It fits if the two images of
+ * before the update, put together from the places that these flags show, are both good, and UPDATE's version is the greater one.
+ * The first mark that fits is taken, by its sector and then in the order F, 7, 3, all 0 being the last one.
+ * OK: UPDATE has the flags of that mark, numbers (3) holds the mark and the bytes changed, and the next power-up goes on from there.
+ * Nothing else changes: neither another byte of UPDATE nor the half byte that an odd number of flags leaves unused.
+ * Refused with 1, 10, 14 (another pair of statuses) or 17 (no mark fits): no byte changes, and numbers holds 0 only.
+ * The mark may be one move back from where the exchange had come to: that move is then done again. Where both images end before a
+ * sector that was exchanged, an earlier sector may be given; what stood behind both images is then exchanged back, or lost. Where the
+ * image in UPDATE was the older one, BOOT's is taken for an update that was exchanged.
+ */
+TAINHOSA_CALL uint32_t tainhosa_mend(size_t sectors, size_t size,
+                                     const uint8_t *boot, size_t boot_length,
+                                     uint8_t *update, size_t update_length,
+                                     const uint8_t *swap, size_t swap_length,
+                                     uint64_t *numbers, size_t numbers_length);
+
 /* ---- SHA-256 */
 
 /*
@@ -381,6 +407,13 @@ struct tainhosa_power_up_answer {
     uint64_t inner_place;
     uint32_t reason;
     uint64_t reason_place;
+};
+
+/* A mark, and how many bytes that hold flags were changed for it. */
+struct tainhosa_mended {
+    size_t sector;
+    uint8_t flag;
+    uint64_t changed;
 };
 
 /* For the functions below. */
@@ -508,6 +541,17 @@ TAINHOSA_CALL static inline uint32_t tainhosa_flash_arm(const struct tainhosa_fl
 TAINHOSA_CALL static inline uint32_t tainhosa_flash_confirm(const struct tainhosa_flash *flash, uint64_t *count) {
     return tainhosa_confirm(flash->sectors, flash->size, flash->boot, flash->boot_length, flash->update, flash->update_length,
                             flash->swap, flash->swap_length, count, TAINHOSA_COMMAND_NUMBERS);
+}
+
+/* tainhosa_mend */
+TAINHOSA_CALL static inline uint32_t tainhosa_flash_mend(const struct tainhosa_flash *flash, struct tainhosa_mended *mended) {
+    uint64_t numbers[TAINHOSA_MEND_NUMBERS] = {0};
+    uint32_t answer = tainhosa_mend(flash->sectors, flash->size, flash->boot, flash->boot_length, flash->update, flash->update_length,
+                                    flash->swap, flash->swap_length, numbers, TAINHOSA_MEND_NUMBERS);
+    mended->sector = (size_t)numbers[TAINHOSA_MEND_SECTOR];
+    mended->flag = (uint8_t)numbers[TAINHOSA_MEND_FLAG];
+    mended->changed = numbers[TAINHOSA_MEND_CHANGED];
+    return answer;
 }
 
 #ifdef __cplusplus

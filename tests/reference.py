@@ -1,5 +1,5 @@
-"""Document 01's rules for headers, images, status bytes, flags and power-up, and the rules of the release sheet, once more: written
-from the papers, with no code of the library.
+"""Document 01's rules for headers, images, status bytes, flags and power-up, document 02's for mending, and the rules of the release
+sheet, once more: written from the papers, with no code of the library.
 
 The scripts in this folder compare what the library's programs print with what this module says.
 """
@@ -341,3 +341,52 @@ def power_up(f, budget):
     if bad:
         return f"refused 12 for {bad.number} at {bad.place}", len(done), reason, None
     return outcome, len(done), reason, None
+
+
+# ---- mending (document 02, two)
+
+# The table of places: by a sector's flag, where the old sector of BOOT and that of UPDATE are.
+PLACES = {0xF: ("BOOT", "UPDATE"), 0x7: ("BOOT", "SWAP"), 0x3: ("UPDATE", "SWAP"), 0x0: ("UPDATE", "BOOT")}
+
+
+def marks(m):
+    """Every mark in its order: its sector, the flag there, and the flags of all sectors. All 0 is named sector m."""
+    for i in range(m):
+        for flag in (0xF, 0x7, 0x3):
+            yield i, flag, [0x0] * i + [flag] + [0xF] * (m - 1 - i)
+    yield m, 0x0, [0x0] * m
+
+
+def old_image(f, flags, old):
+    """The partition that BOOT (old 0) or UPDATE (old 1) was before the update, by these flags; its trailer is left blank."""
+    sectors = []
+    for i, flag in enumerate(flags):
+        area = PLACES[flag][old]
+        sectors.append(f.areas[area][0 if area == "SWAP" else i])
+    return b"".join(sectors) + b"\xff" * f.s
+
+
+def fits(f, flags):
+    try:
+        boot, update = (check_image(f.n, f.s, old_image(f, flags, old)) for old in (0, 1))
+    except Refused:
+        return False
+    return update["version"] > boot["version"]
+
+
+def mend(n, s, boot, update, swap):
+    """The mark's sector and flag, how many flag bytes differ from before, and UPDATE as it is left; or Refused."""
+    if not geometry_fits(n, s) or [len(boot), len(update), len(swap)] != [n * s, n * s, s]:
+        raise Refused(1)
+    if boot[-1] not in STATUSES["BOOT"] or update[-1] not in STATUSES["UPDATE"]:
+        raise Refused(10)
+    if update[-1] != 0x70 or boot[-1] == 0x10:
+        raise Refused(14)
+    f = Flash(n, s, boot, update, swap)
+    for sector, flag, every in marks(f.m):
+        if fits(f, every):
+            for i, value in enumerate(every):
+                f.perform(("flag", None, i, value))
+            left = f.partition("UPDATE")
+            return sector, flag, sum(a != b for a, b in zip(update, left)), left
+    raise Refused(17)

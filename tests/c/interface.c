@@ -1,6 +1,6 @@
 /*
  * The C interface, used whole: every constant, every call and every struct of include/tainhosa.h. What is expected is written out here
- * by the rules of document 01 and the examples of FIPS 180-4, and nothing of it was made by the library. tests/c-interface compiles
+ * by the rules of documents 01 and 02 and the examples of FIPS 180-4, and nothing of it was made by the library. tests/c-interface compiles
  * this file as C99, C11 and C++, and runs it.
  */
 #define _DEFAULT_SOURCE
@@ -117,9 +117,9 @@ static size_t put_image(uint8_t *to, int firmware, uint32_t version) {
 
 static void constants(void) {
     EQUAL(TAINHOSA_VERSION_MAJOR, 0);
-    EQUAL(TAINHOSA_VERSION_MINOR, 3);
+    EQUAL(TAINHOSA_VERSION_MINOR, 4);
     EQUAL(TAINHOSA_VERSION_PATCH, 0);
-    EQUAL(TAINHOSA_VERSION_NUMBER, 300);
+    EQUAL(TAINHOSA_VERSION_NUMBER, 400);
     EQUAL(TAINHOSA_OK, 0);
     EQUAL(TAINHOSA_OUTSIDE_RULES, 1);
     EQUAL(TAINHOSA_WRONG_MAGIC, 2);
@@ -137,6 +137,7 @@ static void constants(void) {
     EQUAL(TAINHOSA_WRONG_TIME, 14);
     EQUAL(TAINHOSA_NOT_NEWER, 15);
     EQUAL(TAINHOSA_SHORT_HEADER, 16);
+    EQUAL(TAINHOSA_NO_MARK_FITS, 17);
     EQUAL(TAINHOSA_LINE_NOT_UNDERSTOOD, 101);
     EQUAL(TAINHOSA_NAME_NOT_KNOWN, 102);
     EQUAL(TAINHOSA_VALUE_NOT_ALLOWED, 103);
@@ -913,11 +914,181 @@ static void refusals(void) {
     flash = good;
 }
 
+/* ---- Mending, on the same three sectors */
+
+/* The flags are spoiled and mended: the mark, the flag byte then, and the operations that are left from there. */
+static void mend(int line, uint8_t spoiled, size_t sector, unsigned sector_flag, uint8_t mended_byte, uint64_t left) {
+    struct tainhosa_mended mended;
+    uint8_t old_swap[256], older[259], newer[368];
+    remember();
+    EQUAL(put_image(older, SHORT, 1), sizeof older);
+    EQUAL(put_image(newer, LONGER, 2), sizeof newer);
+    memcpy(old_swap, swap, sizeof swap);
+    memset(&mended, BEFORE, sizeof mended);
+    update[FLAGS] = spoiled;
+    old_update[FLAGS] = mended_byte;
+    expect(line, "tainhosa_flash_mend", tainhosa_flash_mend(&flash, &mended), TAINHOSA_OK);
+    expect(line, "sector", mended.sector, sector);
+    expect(line, "flag", mended.flag, sector_flag);
+    expect(line, "changed", mended.changed, spoiled == mended_byte ? 0 : 1);
+    expect(line, "flag byte", update[FLAGS], mended_byte);
+    expect_unchanged();
+    SAME(swap, old_swap, sizeof swap);
+    power_up(line, UINT64_MAX, TAINHOSA_RUN_ON_TEST, left, 0, 0);
+    SAME(boot, newer, sizeof newer);
+    SAME(update, older, sizeof older);
+    EQUAL(boot[STATUS], TAINHOSA_STATUS_TESTING);
+    EVERY(update, FIRMWARE_SECTORS, sizeof update, 0xFF);
+}
+
+/* A mend that is refused. */
+static void no_mend(int line, uint32_t number) {
+    struct tainhosa_mended mended;
+    memset(&mended, BEFORE, sizeof mended);
+    remember();
+    expect(line, "tainhosa_flash_mend", tainhosa_flash_mend(&flash, &mended), number);
+    expect(line, "sector", mended.sector, 0);
+    expect(line, "flag", mended.flag, 0);
+    expect(line, "changed", mended.changed, 0);
+    expect_unchanged();
+}
+
+#define MEND(spoiled, sector, sector_flag, mended_byte, left) mend(__LINE__, spoiled, sector, sector_flag, mended_byte, left)
+#define NO_MEND(number) no_mend(__LINE__, number)
+
+/* The update is armed, and so many operations are done. */
+static void armed_and_cut(uint64_t operations) {
+    armed(1, 2);
+    POWER_UP(operations, TAINHOSA_CUT, operations);
+}
+
+/*
+ * The whole update takes 21 operations, three of them for each of the six moves of the flags. Two of the three do not show which of two
+ * marks is the true one, and then the first is taken. Both firmwares begin with "abc", and that is all of the older one: it is good with
+ * either sector 1.
+ */
+static void mending(void) {
+    struct tainhosa_flash good = flash;
+    unsigned spoiled;
+
+    armed_and_cut(0);
+    MEND(0x5A, 0, TAINHOSA_FLAG_UNTOUCHED, 0xFF, 21);
+    armed_and_cut(0);
+    MEND(0xFF, 0, TAINHOSA_FLAG_UNTOUCHED, 0xFF, 21);
+    armed_and_cut(3);
+    MEND(0xF7, 0, TAINHOSA_FLAG_UNTOUCHED, 0xFF, 21);
+    armed_and_cut(4);
+    MEND(0x00, 0, TAINHOSA_FLAG_SAVED, 0xF7, 18);
+    armed_and_cut(5);
+    MEND(0x11, 0, TAINHOSA_FLAG_SAVED, 0xF7, 18);
+    armed_and_cut(6);
+    MEND(0xF3, 0, TAINHOSA_FLAG_SAVED, 0xF7, 18);
+    armed_and_cut(7);
+    MEND(0x0F, 0, TAINHOSA_FLAG_MOVED, 0xF3, 15);
+    armed_and_cut(9);
+    MEND(0xF0, 0, TAINHOSA_FLAG_MOVED, 0xF3, 15);
+    armed_and_cut(10);
+    MEND(0xFF, 1, TAINHOSA_FLAG_UNTOUCHED, 0xF0, 12);
+    armed_and_cut(12);
+    MEND(0x70, 1, TAINHOSA_FLAG_UNTOUCHED, 0xF0, 12);
+    armed_and_cut(13);
+    MEND(0x07, 1, TAINHOSA_FLAG_SAVED, 0x70, 9);
+    armed_and_cut(16);
+    MEND(0xFF, 1, TAINHOSA_FLAG_MOVED, 0x30, 6);
+    armed_and_cut(18);
+    MEND(0x00, 1, TAINHOSA_FLAG_SAVED, 0x70, 9);
+    armed_and_cut(18);
+    memset(swap, 0xFF, sizeof swap);
+    MEND(0x77, 2, TAINHOSA_FLAG_EXCHANGED, 0x00, 3);
+    armed_and_cut(13);
+    boot[STATUS] = TAINHOSA_STATUS_NEW;
+    MEND(0xAA, 1, TAINHOSA_FLAG_SAVED, 0x70, 8);
+    for (spoiled = 0; spoiled < 256; spoiled++) {
+        armed_and_cut(7);
+        MEND((uint8_t)spoiled, 0, TAINHOSA_FLAG_MOVED, 0xF3, 15);
+    }
+
+    /* No mark fits: UPDATE's firmware is damaged, BOOT's is, the versions are equal. */
+    armed_and_cut(13);
+    swap[0] ^= 1;
+    NO_MEND(TAINHOSA_NO_MARK_FITS);
+    armed_and_cut(13);
+    boot[256] ^= 1;
+    NO_MEND(TAINHOSA_NO_MARK_FITS);
+    armed(3, 3);
+    NO_MEND(TAINHOSA_NO_MARK_FITS);
+
+    /* Each other pair of statuses, and those that are not allowed. */
+    armed_and_cut(20);
+    NO_MEND(TAINHOSA_WRONG_TIME);
+    armed(1, 2);
+    POWER_UP(21, TAINHOSA_RUN_ON_TEST, 21);
+    NO_MEND(TAINHOSA_WRONG_TIME);
+    two_images(1, 2);
+    NO_MEND(TAINHOSA_WRONG_TIME);
+    boot[STATUS] = TAINHOSA_STATUS_NEW;
+    NO_MEND(TAINHOSA_WRONG_TIME);
+    armed(1, 2);
+    boot[STATUS] = 0x70;
+    NO_MEND(TAINHOSA_STATUS_NOT_ALLOWED);
+    armed(1, 2);
+    update[STATUS] = 0x00;
+    NO_MEND(TAINHOSA_STATUS_NOT_ALLOWED);
+
+    armed(1, 2);
+    flash.sectors = 513;
+    NO_MEND(TAINHOSA_OUTSIDE_RULES);
+    flash = good;
+    flash.size = 384;
+    NO_MEND(TAINHOSA_OUTSIDE_RULES);
+    flash = good;
+    flash.boot_length = 767;
+    NO_MEND(TAINHOSA_OUTSIDE_RULES);
+    flash = good;
+    flash.update_length = 767;
+    NO_MEND(TAINHOSA_OUTSIDE_RULES);
+    flash = good;
+    flash.swap_length = 255;
+    NO_MEND(TAINHOSA_OUTSIDE_RULES);
+    flash = good;
+}
+
+/* The half byte that one flag leaves unused stays: two sectors of 512 bytes. */
+static void unused_half(void) {
+    static uint8_t one_boot[1024], one_update[1024], one_swap[512];
+    uint64_t numbers[TAINHOSA_MEND_NUMBERS] = {BEFORE, BEFORE, BEFORE};
+    memset(one_boot, 0xFF, sizeof one_boot);
+    memset(one_update, 0xFF, sizeof one_update);
+    memset(one_swap, 0xFF, sizeof one_swap);
+    put_image(one_boot, SHORT, 1);
+    put_image(one_update, LONGER, 2);
+    one_boot[1023] = TAINHOSA_STATUS_SUCCESS;
+    one_update[1023] = TAINHOSA_STATUS_UPDATING;
+    one_update[1022] = 0x52;
+    EQUAL(tainhosa_mend(2, 512, one_boot, 1024, one_update, 1024, one_swap, 512, numbers, 3), TAINHOSA_OK);
+    EQUAL(numbers[TAINHOSA_MEND_SECTOR], 0);
+    EQUAL(numbers[TAINHOSA_MEND_FLAG], TAINHOSA_FLAG_UNTOUCHED);
+    EQUAL(numbers[TAINHOSA_MEND_CHANGED], 1);
+    EQUAL(one_update[1022], 0x5F);
+    EVERY(one_update, 512, 1022, 0xFF);
+}
+
 /* The calls on rows, and rows of another length. */
 static void rows(void) {
-    uint64_t answer[TAINHOSA_POWER_UP_NUMBERS + 1], count[TAINHOSA_COMMAND_NUMBERS + 1];
+    uint64_t answer[TAINHOSA_POWER_UP_NUMBERS + 1], count[TAINHOSA_COMMAND_NUMBERS + 1], mended[TAINHOSA_MEND_NUMBERS + 1];
     EQUAL(TAINHOSA_POWER_UP_NUMBERS, 6);
     EQUAL(TAINHOSA_COMMAND_NUMBERS, 1);
+    EQUAL(TAINHOSA_MEND_NUMBERS, 3);
+    armed(9, 10);
+    update[FLAGS] = 0x00;
+    remember();
+    memset(mended, BEFORE, sizeof mended);
+    EQUAL(tainhosa_mend(3, 256, boot, 768, update, 768, swap, 256, mended, 2), TAINHOSA_OUTSIDE_RULES);
+    EQUAL(tainhosa_mend(3, 256, boot, 768, update, 768, swap, 256, mended, 4), TAINHOSA_OUTSIDE_RULES);
+    EVERY((const uint8_t *)mended, 0, sizeof mended, BEFORE);
+    expect_unchanged();
+    EQUAL(tainhosa_mend(3, 256, boot, 768, update, 768, swap, 255, mended, 3), TAINHOSA_OUTSIDE_RULES);
+    EVERY((const uint8_t *)mended, 0, 3 * sizeof mended[0], 0);
     two_images(9, 9);
     remember();
     memset(answer, BEFORE, sizeof answer);
@@ -965,6 +1136,8 @@ int main(void) {
     after_an_update();
     turning_down();
     refusals();
+    mending();
+    unused_half();
     rows();
     printf("%d expectations, %d wrong\n", tried, wrong);
     return wrong == 0 ? 0 : 1;

@@ -111,4 +111,17 @@ extern "C" {
         count: *mut u64,
         count_length: usize,
     ) -> u32;
+
+    pub fn tainhosa_mend(
+        sectors: usize,
+        size: usize,
+        boot: *const u8,
+        boot_length: usize,
+        update: *mut u8,
+        update_length: usize,
+        swap: *const u8,
+        swap_length: usize,
+        numbers: *mut u64,
+        numbers_length: usize,
+    ) -> u32;
 }

@@ -133,6 +133,44 @@ impl Flag {
     }
 }
 
+impl fmt::Display for Flag {
+    fn fmt(&self, f: &mut fmt::Formatter<'_>) -> fmt::Result {
+        match self {
+            Flag::Untouched => f.write_str("F"),
+            Flag::Saved => f.write_str("7"),
+            Flag::Moved => f.write_str("3"),
+            Flag::Exchanged => f.write_str("0"),
+            Flag::Other(half) => write!(f, "{half:X}"),
+        }
+    }
+}
+
+/// Where an exchange stands: this sector has this flag, F, 7 or 3; the sectors before it have 0, and those behind it F. One more mark
+/// is all 0: its sector is the number of firmware sectors, and its flag 0.
+#[derive(Clone, Copy, Debug, PartialEq, Eq)]
+pub struct Mark {
+    /// The sector.
+    pub sector: usize,
+    /// Its flag.
+    pub flag: Flag,
+}
+
+impl Mark {
+    /// Whether it is the mark that is all 0: every firmware sector is exchanged.
+    pub fn is_all_exchanged(self) -> bool {
+        self.flag == Flag::Exchanged
+    }
+}
+
+/// What mending did.
+#[derive(Clone, Copy, Debug, PartialEq, Eq)]
+pub struct Mended {
+    /// The mark whose flags stand in UPDATE now.
+    pub mark: Mark,
+    /// How many of the bytes that hold flags differ from before.
+    pub bytes: u64,
+}
+
 /// The flash: BOOT, UPDATE and SWAP, in buffers that are lent.
 ///
 /// A store to them stands for an operation of the flash, and it is the user's part that it becomes one.
@@ -219,6 +257,12 @@ impl<'a> Flash<'a> {
         (0..self.geometry.firmware_sectors()).map(flag).collect()
     }
 
+    /// The bytes of UPDATE that hold the flags, that of sectors 0 and 1 first: they stand from the partition's end down.
+    pub fn flag_bytes(&self) -> Vec<u8> {
+        let count = (self.geometry.firmware_sectors() + 1) / 2;
+        self.update.iter().rev().skip(1).take(count).copied().collect()
+    }
+
     /// Arms the update in UPDATE, for the next power-up to take or turn down. The operations done: 2.
     ///
     /// Refused with 10 or 14; then no byte changes.
@@ -250,6 +294,53 @@ impl<'a> Flash<'a> {
         let mut count = [0];
         let answer = raw::confirm(sectors, size, self.buffers(), &mut count);
         counted(answer, count)
+    }
+
+    /// Writes the flags of an update again, where they were spoiled: those of the first mark under which the images of before the
+    /// update are both good, and UPDATE's is the newer one. The flags that stand there are not read, and nothing else is written.
+    ///
+    /// The mark may be one move back from where the exchange had come to, and that move is then done again. Where both images end
+    /// before a sector that was exchanged, an earlier sector may be given: what stood behind both images is then exchanged back, or
+    /// lost.
+    ///
+    /// Refused with 10, 14 (UPDATE is not UPDATING, or BOOT is TESTING) or 17 (no mark fits); then no byte changes.
+    ///
+    /// ```
+    /// # use tainhosa::{Flag, Flash, Geometry, Mark, Mended, Outcome, Sheet};
+    /// # let geometry = Geometry::new(3, 256)?;
+    /// # let partition = |version| {
+    /// #     let sheet = Sheet { version, timestamp: 0, auth_type: 0, signature: [0; 64], hint: None };
+    /// #     let firmware = [version as u8; 200];
+    /// #     let mut bytes = [&sheet.make_header(&firmware)?[..], &firmware].concat();
+    /// #     bytes.resize(geometry.partition(), 0xFF);
+    /// #     Ok::<_, tainhosa::Refusal>(bytes)
+    /// # };
+    /// # let (mut boot, mut update, mut swap) = (partition(7)?, partition(8)?, [0; 256]);
+    /// # let mut flash = Flash::new(geometry, &mut boot, &mut update, &mut swap)?;
+    /// # flash.arm()?;
+    /// # flash.power_up_within(4);
+    /// # update[766] = 0x5A;
+    /// # let mut flash = Flash::new(geometry, &mut boot, &mut update, &mut swap)?;
+    /// // An exchange lost power when sector 0 of UPDATE was in SWAP and erased, and then its flags were spoiled.
+    /// assert_eq!(flash.flag_bytes(), [0x5A]);
+    /// assert!(matches!(flash.power_up().outcome, Outcome::Refused(refusal) if refusal.number == 11));
+    ///
+    /// let mark = Mark { sector: 0, flag: Flag::Saved };
+    /// assert_eq!(flash.mend()?, Mended { mark, bytes: 1 });
+    /// assert_eq!(flash.flags(), [Flag::Saved, Flag::Untouched]);
+    /// assert_eq!(flash.mend()?, Mended { mark, bytes: 0 });
+    /// assert_eq!(flash.power_up().outcome, Outcome::RunOnTest);
+    /// assert_eq!(flash.mend().unwrap_err().number, 14);
+    /// # Ok::<(), tainhosa::Refusal>(())
+    /// ```
+    pub fn mend(&mut self) -> Result<Mended, Refusal> {
+        let mut numbers = [0; 3];
+        let answer = raw::mend(self.geometry.sectors, self.geometry.size, self.boot, self.update, self.swap, &mut numbers);
+        let [sector, flag, bytes] = numbers;
+        match answer {
+            0 => Ok(Mended { mark: Mark { sector: sector as usize, flag: Flag::of(flag as u8) }, bytes }),
+            number => Err(Refusal::new(number, 0)),
+        }
     }
 }
 

@@ -5,7 +5,7 @@
 //! | a header's values | [`Header`], and [`Tags`] for the walk over its tags |
 //! | a release sheet, and the header of a firmware | [`Sheet`] |
 //! | an image that was checked | [`Image`] |
-//! | the flash, and what a power-up answers | [`Flash`], [`Geometry`], [`PowerUp`] |
+//! | the flash, and what a power-up and mending answer | [`Flash`], [`Geometry`], [`PowerUp`], [`Mended`] |
 //! | a refusal: its number, its place, and in words | [`Refusal`] |
 //! | SHA-256 | [`sha256`] |
 //! | the calls as they are, for tests | [`raw`] |
@@ -50,7 +50,7 @@ mod tags;
 mod words;
 
 pub use digest::sha256;
-pub use flash::{Flag, Flash, Geometry, Status};
+pub use flash::{Flag, Flash, Geometry, Mark, Mended, Status};
 pub use header::Header;
 pub use image::Image;
 pub use power_up::{Outcome, PowerUp};

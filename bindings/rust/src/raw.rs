@@ -182,3 +182,21 @@ pub fn confirm(sectors: usize, size: usize, flash: Buffers<'_>, count: &mut [u64
         )
     }
 }
+
+/// `tainhosa_mend`: 3 numbers.
+pub fn mend(sectors: usize, size: usize, boot: &[u8], update: &mut [u8], swap: &[u8], numbers: &mut [u64]) -> u32 {
+    unsafe {
+        ffi::tainhosa_mend(
+            sectors,
+            size,
+            boot.as_ptr(),
+            boot.len(),
+            update.as_mut_ptr(),
+            update.len(),
+            swap.as_ptr(),
+            swap.len(),
+            numbers.as_mut_ptr(),
+            numbers.len(),
+        )
+    }
+}

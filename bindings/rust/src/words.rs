@@ -37,7 +37,7 @@ const AGAIN: &str =
                      release sheet and its firmware.";
 
 /// Every refusal, by its number.
-pub const MEANINGS: [Meaning; 21] = [
+pub const MEANINGS: [Meaning; 22] = [
     row(
         1,
         Place::Nothing,
@@ -88,7 +88,7 @@ pub const MEANINGS: [Meaning; 21] = [
         Place::Nothing,
         "the sector flags are none that an exchange leaves",
         "Something else has written UPDATE's last sector, or the geometry is not the printer's: keep a copy of the flash before it is \
-         written anew.",
+         written anew. Flags that were lost while UPDATE is UPDATING and BOOT is NEW or SUCCESS can be mended.",
     ),
     row(
         12,
@@ -106,9 +106,9 @@ pub const MEANINGS: [Meaning; 21] = [
     row(
         14,
         Place::Nothing,
-        "it is not the time to arm or to confirm",
+        "it is not the time to arm, to confirm or to mend",
         "An update is armed when none is under way and nothing runs on test; it is confirmed when it runs on test and no fallback has \
-         begun. Let the printer power up first.",
+         begun: let the printer power up first. Flags are mended while UPDATE is UPDATING and BOOT is NEW or SUCCESS.",
     ),
     row(
         15,
@@ -121,6 +121,14 @@ pub const MEANINGS: [Meaning; 21] = [
         Place::Byte,
         "there are fewer than 256 bytes, and a header has 256",
         "The file is empty or was cut short: get it again.",
+    ),
+    row(
+        17,
+        Place::Nothing,
+        "no flags fit the flash: under none are both images good and the update newer",
+        "More was lost than the flags: a sector of one of the images is damaged, or the update was never newer than the image in BOOT. \
+         Or the geometry is not the printer's, or a dump is not its. Keep a copy of the flash, and write a good image to BOOT, by the \
+         way that the printer's maker has for it.",
     ),
     row(
         101,

@@ -75,6 +75,7 @@ pub enum Call {
     PowerUp { g: Geometry, flash: LentFlash, budget: u64, answer: Lent<u64> },
     Arm { g: Geometry, flash: LentFlash, count: Lent<u64> },
     Confirm { g: Geometry, flash: LentFlash, count: Lent<u64> },
+    Mend { g: Geometry, flash: LentFlash, numbers: Lent<u64> },
 }
 
 pub enum Part<'a> {
@@ -134,6 +135,7 @@ impl Call {
             Call::PowerUp { .. } => "power_up",
             Call::Arm { .. } => "arm",
             Call::Confirm { .. } => "confirm",
+            Call::Mend { .. } => "mend",
         }
     }
 
@@ -186,6 +188,12 @@ impl Call {
                 all.push(("count", Part::Row(count)));
                 all
             }
+            Call::Mend { g, flash, numbers } => {
+                let mut all = sizes(g);
+                all.extend(buffers(flash));
+                all.push(("numbers", Part::Row(numbers)));
+                all
+            }
         }
     }
 
@@ -214,13 +222,19 @@ impl Call {
                 all.push(("count", count.len(), 1));
                 all
             }
+            Call::Mend { g, flash, numbers } => {
+                let mut all = flash_lengths(g, flash);
+                all.push(("numbers", numbers.len(), 3));
+                all
+            }
         }
     }
 
     /// The geometry that is asked for, if one is.
     pub fn geometry(&self) -> Option<Geometry> {
         match self {
-            Call::CheckImage { g, .. } | Call::PowerUp { g, .. } | Call::Arm { g, .. } | Call::Confirm { g, .. } => Some(*g),
+            Call::CheckImage { g, .. } | Call::PowerUp { g, .. } | Call::Arm { g, .. } => Some(*g),
+            Call::Confirm { g, .. } | Call::Mend { g, .. } => Some(*g),
             _ => None,
         }
     }
@@ -234,9 +248,8 @@ impl Call {
             Call::MakeHeader { firmware, .. } => firmware.len() > 5000,
             Call::ReadSheet { text, .. } => text.len() > 2000,
             Call::CheckFirmware { image, .. } => image.len() > 5000,
-            Call::CheckImage { g, .. } | Call::PowerUp { g, .. } | Call::Arm { g, .. } | Call::Confirm { g, .. } => {
-                g.n > 6 || g.s > 768
-            }
+            Call::CheckImage { g, .. } | Call::PowerUp { g, .. } | Call::Arm { g, .. } => g.n > 6 || g.s > 768,
+            Call::Confirm { g, .. } | Call::Mend { g, .. } => g.n > 6 || g.s > 768,
         }
     }
 }

@@ -225,7 +225,25 @@ fn any_budget(r: &mut Random, g: Geometry) -> u64 {
     r.pick(&[few, some, some, all + few, any, 1 << 32, u64::MAX])
 }
 
-/// All four calls on one flash, each on the flash as it is given.
+/// Mending, often with flags that were spoiled. Where it could take long, BOOT has no header, and every mark fails by that; on the
+/// largest flashes it is not tried.
+fn try_mend(c: &mut Compare, r: &mut Random, g: Geometry, f: &Flash) {
+    if f.boot.len() > 1 << 19 {
+        return;
+    }
+    let mut f = f.clone();
+    if f.fits(g) {
+        if r.one_in(2) {
+            spoil_flags(r, g, &mut f);
+        }
+        if 3 * g.m() * g.m() * g.s > 400_000 {
+            f.boot[..4].fill(0);
+        }
+    }
+    c.call(Call::Mend { g, flash: LentFlash::new(&f), numbers: row(r, 3) });
+}
+
+/// All five calls on one flash, each on the flash as it is given.
 fn try_calls(c: &mut Compare, r: &mut Random, g: Geometry, f: &Flash) {
     let partition = Lent::new(if r.one_in(2) { &f.boot } else { &f.update });
     let flash = LentFlash::new(f);
@@ -233,6 +251,7 @@ fn try_calls(c: &mut Compare, r: &mut Random, g: Geometry, f: &Flash) {
     c.call(Call::PowerUp { g, flash: flash.clone(), budget: any_budget(r, g), answer: row(r, 6) });
     c.call(Call::Arm { g, flash: flash.clone(), count: row(r, 1) });
     c.call(Call::Confirm { g, flash, count: row(r, 1) });
+    try_mend(c, r, g, f);
 }
 
 fn try_flash(c: &mut Compare, r: &mut Random, g: Geometry) {

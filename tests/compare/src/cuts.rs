@@ -33,8 +33,8 @@ enum Event {
 
 /// Where a list has come to: the flash, the operations completed, the early ends, and the list.
 #[derive(Clone)]
-struct Stage {
-    flash: Flash,
+pub struct Stage {
+    pub flash: Flash,
     done: u64,
     early: u64,
     list: Vec<Event>,
@@ -48,11 +48,15 @@ pub struct Tried {
     pub lists: u64,
 }
 
-/// An update or a fallback, from its start.
-struct Job {
+/// An update or a fallback: the flash that its list begins with, and the old sectors. These are of the same flash, unless it was
+/// mended, and then they are the ones that the flags show.
+pub struct Job {
     g: Geometry,
+    begin: Flash,
     old: Flash,
     fallback: bool,
+    /// The moves that the flags have behind them when the list begins.
+    behind: u64,
 }
 
 /// Where a sector's two old contents stand by its flag.
@@ -67,25 +71,36 @@ fn places(flag: u8) -> Option<(Area, Area)> {
 }
 
 /// How far a flag has moved on.
-fn moves(flag: u8) -> usize {
+pub fn moves(flag: u8) -> usize {
     [0xF, 7, 3, 0].iter().position(|f| *f == flag).unwrap_or(usize::MAX)
 }
 
 impl Job {
-    fn new(c: &Compare, g: Geometry, old: Flash, fallback: bool) -> Self {
-        let job = Job { g, old, fallback };
-        let start = job.start();
-        if job.finished(&start.flash) || plan(g, &start.flash).map_or(true, |p| p.reason.is_some()) {
-            job.broken(c, "no start of an exchange", &start, &start);
+    pub fn new(c: &Compare, g: Geometry, old: Flash, fallback: bool) -> Self {
+        Job { g, begin: old.clone(), old, fallback, behind: 0 }.seen(c)
+    }
+
+    /// The rest of an update whose flags were mended, for the images that they show.
+    pub fn mended(c: &Compare, g: Geometry, begin: Flash) -> Self {
+        let flags = begin.flags(g);
+        let (boot, update) = old_images(g, &begin, &flags);
+        let behind = flags.iter().map(|flag| moves(*flag) as u64).sum();
+        Job { g, old: Flash { boot, update, swap: begin.swap.clone() }, begin, fallback: false, behind }.seen(c)
+    }
+
+    fn seen(self, c: &Compare) -> Self {
+        let start = self.start();
+        if self.finished(&start.flash) || plan(self.g, &start.flash).map_or(true, |p| p.reason.is_some()) {
+            self.broken(c, "no start of an exchange", &start, &start);
         }
-        job
+        self
     }
 
-    fn start(&self) -> Stage {
-        Stage { flash: self.old.clone(), done: 0, early: 0, list: Vec::new() }
+    pub fn start(&self) -> Stage {
+        Stage { flash: self.begin.clone(), done: 0, early: 0, list: Vec::new() }
     }
 
-    fn finished(&self, f: &Flash) -> bool {
+    pub fn finished(&self, f: &Flash) -> bool {
         if self.fallback {
             f.boot.last() == Some(&SUCCESS)
         } else {
@@ -128,7 +143,7 @@ impl Job {
     }
 
     fn holds(&self, c: &Compare, before: &Stage, after: &Stage, some_flag: bool) {
-        let bound = 9 * self.g.m() as u64 + if self.fallback { 1 } else { 3 } + 2 * after.early;
+        let bound = 9 * self.g.m() as u64 - 3 * self.behind + if self.fallback { 1 } else { 3 } + 2 * after.early;
         let f = &after.flash;
         if after.done > bound {
             self.broken(c, "more operations than the bound", before, after);
@@ -154,7 +169,8 @@ impl Job {
         println!("DEMAND 3 BROKEN: {what}; call {} of seed {}", c.calls, c.seed);
         println!("{}, {:?}", if self.fallback { "fallback" } else { "update" }, self.g);
         println!("{} operations, {} early ends: {:?}", after.done, after.early, after.list);
-        for (when, f) in [("start", &self.old), ("before", &before.flash), ("after", &after.flash)] {
+        let all = [("old", &self.old), ("start", &self.begin), ("before", &before.flash), ("after", &after.flash)];
+        for (when, f) in all {
             for (name, b) in [("boot", &f.boot), ("update", &f.update), ("swap", &f.swap)] {
                 println!("  {name}, {when}: {}", hex(b, &format!("{}-{}-{when}-{name}", c.seed, c.calls)));
             }
@@ -222,12 +238,12 @@ impl Job {
     }
 
     /// Power lost at every operation and in every way.
-    fn every_loss(&self, c: &mut Compare, r: &mut Random, at: &Stage) -> Vec<Stage> {
+    pub fn every_loss(&self, c: &mut Compare, r: &mut Random, at: &Stage) -> Vec<Stage> {
         let operations = self.operations(c, at);
         (0..=operations.len()).flat_map(|k| self.lose(c, r, at, k as u64, operations.get(k).copied())).collect()
     }
 
-    fn finish(&self, c: &mut Compare, at: &Stage) {
+    pub fn finish(&self, c: &mut Compare, at: &Stage) {
         if !self.finished(&at.flash) {
             let end = self.untorn(c, at, u64::MAX);
             if !self.finished(&end.flash) {
@@ -291,7 +307,7 @@ impl Job {
     }
 
     /// A list of any power-ups, up to the finish.
-    fn any_list(&self, c: &mut Compare, r: &mut Random) {
+    pub fn any_list(&self, c: &mut Compare, r: &mut Random) {
         let mut at = self.start();
         while !self.finished(&at.flash) {
             let operations = self.operations(c, &at);

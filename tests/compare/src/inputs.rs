@@ -219,8 +219,13 @@ fn firmware_size(r: &mut Random, most: usize, wrong: u64) -> u32 {
 
 /// A partition with an image, made for the refusal `wrong` (2 to 9), or for none (0). Its trailer holds any bytes.
 pub fn partition(r: &mut Random, g: Geometry, version: u32, wrong: u64) -> Vec<u8> {
-    let mut p = r.bytes(g.n * g.s);
     let size = firmware_size(r, g.m() * g.s - HEADER, wrong);
+    partition_of(r, g, version, size, wrong)
+}
+
+/// The same with a firmware of this size.
+pub fn partition_of(r: &mut Random, g: Geometry, version: u32, size: u32, wrong: u64) -> Vec<u8> {
+    let mut p = r.bytes(g.n * g.s);
     let end = (HEADER + size as usize).min(p.len());
     let mut v = header(r, &p[HEADER..end], version);
     v.size = size;
@@ -313,6 +318,32 @@ fn set_flags(r: &mut Random, g: Geometry, f: &mut Flash) {
     let moves = r.pick(&[any, 3 * g.m()]);
     for i in 0..g.m() {
         f.perform(g, Operation::Flag(i, [0xF, 7, 3, 0][moves.saturating_sub(3 * i).min(3)]));
+    }
+}
+
+/// Does something to the bytes that hold flags, the unused half of the last one included; at times nothing.
+pub fn spoil_flags(r: &mut Random, g: Geometry, f: &mut Flash) {
+    let last = g.n * g.s - 1;
+    let bytes = last - (g.m() + 1) / 2..last;
+    match r.below(8) {
+        0 => {}
+        1 => {
+            let (at, bit) = (r.within(bytes.start, last - 1), r.below(8));
+            f.update[at] ^= 1 << bit;
+        }
+        2 => f.update[bytes].fill(0),
+        3 => f.update[bytes].fill(0xFF),
+        4 => set_flags(r, g, f),
+        5 => {
+            for i in 0..g.m() {
+                let flag = r.pick(&[0xF, 7, 3, 0]);
+                f.perform(g, Operation::Flag(i, flag));
+            }
+        }
+        _ => {
+            let any = r.bytes(bytes.len());
+            f.update[bytes].copy_from_slice(&any);
+        }
     }
 }
 

@@ -24,5 +24,6 @@ pub fn answer(call: &mut Call) -> u32 {
         Call::PowerUp { g, flash, budget, answer } => raw::power_up(g.n, g.s, lend(flash), *budget, answer),
         Call::Arm { g, flash, count } => raw::arm(g.n, g.s, lend(flash), count),
         Call::Confirm { g, flash, count } => raw::confirm(g.n, g.s, lend(flash), count),
+        Call::Mend { g, flash, numbers } => raw::mend(g.n, g.s, &flash.boot, &mut flash.update, &flash.swap, numbers),
     }
 }

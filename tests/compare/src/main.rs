@@ -1,4 +1,5 @@
-//! Runs the library against the reference: random and damaged inputs, then every cut and every pair of cuts for small partitions.
+//! Runs the library against the reference: random and damaged inputs, then every cut and every pair of cuts for small partitions, then
+//! flags that are spoiled at every cut and mended.
 //!
 //! compare [CALLS] [SEED]: the number of random calls (default 1,000,000) and the seed. Every number and byte that a call leaves is
 //! compared. A difference is printed whole and fails (status 1); so does an answer that is never met, unless the calls are fewer than
@@ -8,6 +9,7 @@ mod calls;
 mod cuts;
 mod inputs;
 mod library;
+mod mends;
 mod random;
 mod reference;
 mod report;
@@ -47,7 +49,7 @@ fn argument(at: usize, default: u64) -> u64 {
 
 fn main() {
     let (calls, seed) = (argument(1, ENOUGH), argument(2, 20_261_115));
-    println!("seed {seed}, {calls} random calls, then cuts");
+    println!("seed {seed}, {calls} random calls, then cuts, then mending");
     catch_signals();
     let mut r = Random(seed);
     let mut c = Compare { seed, calls: 0, tally: Tally::default() };
@@ -58,10 +60,20 @@ fn main() {
     answers.print();
     let mut tried = cuts::try_every_cut(&mut c, &mut r);
     cuts::try_lists(&mut c, &mut r, &mut tried);
+    let cut = c.calls;
     println!("answers of the power-ups with cuts:");
+    std::mem::take(&mut c.tally).print();
+    let mends = mends::try_mends(&mut c, &mut r);
+    println!("answers of mending, and of the power-ups before and behind it:");
     c.tally.print();
-    println!("seed {seed}: {random} random calls, {} power-ups with cuts", c.calls - random);
+    println!("seed {seed}: {random} random calls, {} power-ups with cuts, {} calls around mending", cut - random, c.calls - cut);
     println!("{} single cuts, {} pairs of cuts, {} lists of power-ups", tried.single_cuts, tried.pairs, tried.lists);
+    println!("{} exchanges to mend, {} mended", mends.exchanges, mends.mended);
+    let never = c.tally.missing_of_mends();
+    if !never.is_empty() {
+        println!("no difference, but NEVER MET in mending:\n  {}", never.join("\n  "));
+        std::process::exit(1);
+    }
     let missing = answers.missing();
     if !missing.is_empty() && calls < ENOUGH {
         println!("no difference, but {calls} random calls are too few: {} cases were not met that {ENOUGH} meet", missing.len());

@@ -1,4 +1,5 @@
-//! Document 01 once more, in plain Rust: written from the paper, with no code or definition of the library.
+//! Document 01 and the requests of document 02 that have landed once more, in plain Rust: written from the papers, with no code or
+//! definition of the library.
 
 pub const HEADER: usize = 256;
 pub const MAGIC: [u8; 4] = [0x43, 0x45, 0x52, 0x54];
@@ -614,4 +615,85 @@ pub fn confirm(g: Geometry, f: &mut Flash) -> Result<u64, Refusal> {
     }
     f.perform(g, Operation::Status(Area::Boot, SUCCESS));
     Ok(1)
+}
+
+// ---- mending
+
+/// The mark that was found, and how many bytes that hold flags differ from before.
+#[derive(Clone, Copy, Debug, PartialEq, Eq)]
+pub struct Mended {
+    pub sector: usize,
+    pub flag: u8,
+    pub changed: usize,
+}
+
+/// The flags of a mark: 0 before its sector, F behind it.
+fn flags_of_mark(m: usize, sector: usize, flag: u8) -> Vec<u8> {
+    (0..m)
+        .map(|i| match i.cmp(&sector) {
+            std::cmp::Ordering::Less => 0,
+            std::cmp::Ordering::Equal => flag,
+            std::cmp::Ordering::Greater => 0xF,
+        })
+        .collect()
+}
+
+/// The areas that hold a sector of BOOT and of UPDATE as they were before the exchange: the table of places, by the sector's flag.
+fn old_places(flag: u8) -> (Area, Area) {
+    let old_boot = if flag == 0xF || flag == 7 { Area::Boot } else { Area::Update };
+    let old_update = match flag {
+        0xF => Area::Update,
+        0 => Area::Boot,
+        _ => Area::Swap,
+    };
+    (old_boot, old_update)
+}
+
+/// Both partitions as they were before the exchange, each with an empty trailer sector.
+pub fn old_images(g: Geometry, f: &Flash, flags: &[u8]) -> (Vec<u8>, Vec<u8>) {
+    let (mut boot, mut update) = (Vec::new(), Vec::new());
+    for (i, flag) in flags.iter().enumerate() {
+        let (old_boot, old_update) = old_places(*flag);
+        boot.extend_from_slice(f.sector(g, old_boot, i));
+        update.extend_from_slice(f.sector(g, old_update, i));
+    }
+    boot.resize(g.n * g.s, 0xFF);
+    update.resize(g.n * g.s, 0xFF);
+    (boot, update)
+}
+
+/// Whether both old images are good and UPDATE's is the newer one. The headers are read first, since most marks fail by them.
+fn mark_fits(g: Geometry, f: &Flash, flags: &[u8]) -> bool {
+    let (old_boot, old_update) = old_places(flags[0]);
+    let newer = match (read_header(f.sector(g, old_update, 0)), read_header(f.sector(g, old_boot, 0))) {
+        (Ok(u), Ok(b)) => u.version > b.version,
+        _ => false,
+    };
+    if !newer {
+        return false;
+    }
+    let (boot, update) = old_images(g, f, flags);
+    check_image(g, &update).is_ok() && check_image(g, &boot).is_ok()
+}
+
+pub fn mend(g: Geometry, f: &mut Flash) -> Result<Mended, Refusal> {
+    let (boot, update) = statuses(g, f)?;
+    if (boot, update) != (NEW, UPDATING) && (boot, update) != (SUCCESS, UPDATING) {
+        return refuse(14, 0);
+    }
+    let m = g.m();
+    let mut marks: Vec<(usize, u8)> = (0..m).flat_map(|i| [(i, 0xF), (i, 7), (i, 3)]).collect();
+    marks.push((m, 0));
+    for (sector, flag) in marks {
+        let flags = flags_of_mark(m, sector, flag);
+        if mark_fits(g, f, &flags) {
+            let before = f.update.clone();
+            for (i, flag) in flags.iter().enumerate() {
+                f.set_flag(g, i, *flag);
+            }
+            let changed = before.iter().zip(&f.update).filter(|(a, b)| a != b).count();
+            return Ok(Mended { sector, flag, changed });
+        }
+    }
+    refuse(17, 0)
 }

@@ -146,5 +146,12 @@ pub fn answer(call: &mut Call) -> u32 {
         }
         Call::Arm { g, flash, count } => obey(arm, *g, flash, count),
         Call::Confirm { g, flash, count } => obey(confirm, *g, flash, count),
+        Call::Mend { numbers, .. } if numbers.len() != 3 => WRONG_LENGTH,
+        Call::Mend { g, flash, numbers } => {
+            let answer = with_flash(flash, |f| mend(*g, f));
+            let row = answer.as_ref().map_or([0; 3], |m| [m.sector as u64, m.flag as u64, m.changed as u64]);
+            numbers.copy_from_slice(&row);
+            number(&answer)
+        }
     }
 }

@@ -1,6 +1,6 @@
 //! How often each call gave each answer, and what has to be met in a run.
-use crate::call::Call;
-use crate::reference::{next_tag, Geometry, HEADER, NAMES};
+use crate::call::{Call, LentFlash};
+use crate::reference::{next_tag, Geometry, HEADER, NAMES, NEW, SUCCESS, TESTING, UPDATING};
 use std::collections::BTreeMap;
 
 const TYPES: [u16; 6] = [0x0001, 0x0002, 0x0003, 0x0020, 0x0030, 0x1000];
@@ -27,6 +27,11 @@ impl Tally {
         }
     }
 
+    /// Counts something that a call alone does not show.
+    pub fn note(&mut self, what: &str) {
+        *self.answers.entry(what.to_string()).or_insert(0) += 1;
+    }
+
     pub fn print(&self) {
         for (what, times) in &self.answers {
             println!("{times:9} {what}");
@@ -36,6 +41,11 @@ impl Tally {
             let all: Vec<String> = wrong.iter().map(|(what, times)| format!("{times} {what}")).collect();
             println!("    {buffer}: {}", all.join(", "));
         }
+    }
+
+    /// What was never met of what mending has to meet.
+    pub fn missing_of_mends(&self) -> Vec<String> {
+        MENDS.iter().filter(|what| !self.answers.contains_key(**what)).map(|what| what.to_string()).collect()
     }
 
     /// What was never met of the answers that can be met, and of the wrong lengths.
@@ -112,6 +122,38 @@ fn of_power_up(number: u32, row: &[u64]) -> Vec<String> {
     all
 }
 
+fn status(partition: &[u8]) -> Option<&'static str> {
+    match *partition.last()? {
+        NEW => Some("NEW"),
+        UPDATING => Some("UPDATING"),
+        TESTING => Some("TESTING"),
+        SUCCESS => Some("SUCCESS"),
+        _ => None,
+    }
+}
+
+/// What mending found, or which statuses it was refused for.
+fn of_mend(flash: &LentFlash, number: u32, row: &[u64]) -> Vec<String> {
+    let mut all = vec![answered(number)];
+    let (boot, update) = (status(&flash.boot), status(&flash.update));
+    match number {
+        0 => {
+            all.push(match row[1] {
+                0 => "done, mark all 0".to_string(),
+                flag => format!("done, mark {flag:X}"),
+            });
+            all.push(if row[2] == 0 { "done, no byte changed" } else { "done, bytes changed" }.to_string());
+        }
+        10 => {
+            let wrong = if boot.map_or(true, |b| b == "UPDATING") { "BOOT" } else { "UPDATE" };
+            all.push(format!("refused 10 for {wrong}"));
+        }
+        14 => all.push(format!("refused 14 for {} and {}", boot.unwrap_or("?"), update.unwrap_or("?"))),
+        _ => {}
+    }
+    all
+}
+
 /// What is special in a sheet that was read, or which name it was refused for.
 fn of_sheet(text: &[u8], number: u32, place: u64) -> Vec<String> {
     match number {
@@ -153,6 +195,7 @@ fn of_geometry(g: Geometry, number: u32) -> Option<&'static str> {
 fn answers(asked: &Call, number: u32, after: &Call) -> Vec<String> {
     let mut all = match after {
         Call::PowerUp { answer, .. } if answer.len() == 6 => of_power_up(number, answer),
+        Call::Mend { flash, numbers, .. } if numbers.len() == 3 => of_mend(flash, number, numbers),
         Call::NextTag { tag, .. } if number == 0 => vec![if tag[1] == 1 { "tag" } else { "end" }.to_string()],
         _ => vec![answered(number)],
     };
@@ -177,8 +220,35 @@ fn answers(asked: &Call, number: u32, after: &Call) -> Vec<String> {
 
 // ---- what has to be met
 
+/// Of the mends that follow an exchange, beside the random ones.
+const MENDS: [&str; 23] = [
+    "mend: done, mark F",
+    "mend: done, mark 7",
+    "mend: done, mark 3",
+    "mend: done, mark all 0",
+    "mend: done, no byte changed",
+    "mend: done, bytes changed",
+    "mend: refused  1",
+    "mend: refused 10 for BOOT",
+    "mend: refused 10 for UPDATE",
+    "mend: refused 14 for NEW and NEW",
+    "mend: refused 14 for SUCCESS and NEW",
+    "mend: refused 14 for TESTING and NEW",
+    "mend: refused 14 for TESTING and UPDATING",
+    "mend: refused 17",
+    "mend: of 512 sectors",
+    "mend: of 511 sectors, the trailer full",
+    "mend: refused 1 for the trailer",
+    "mended: where the exchange had come to",
+    "mended: all 0, at the end of an exchange",
+    "mended: one move back",
+    "mended: in an earlier sector, images that end before it",
+    "mended: flags that were well formed, but of another mark",
+    "mended: beside an unused half byte that is not F",
+];
+
 fn answers_to_meet() -> Vec<String> {
-    let numbers: [(&str, &[u32]); 11] = [
+    let numbers: [(&str, &[u32]); 12] = [
         ("sha256", &[0, 1]),
         ("read_header", &[0, 1, 2, 3, 4, 5, 6, 7, 8, 16]),
         ("write_header", &[0, 1, 3, 16]),
@@ -190,6 +260,7 @@ fn answers_to_meet() -> Vec<String> {
         ("power_up", &[1, 10, 11]),
         ("arm", &[0, 1, 10, 14]),
         ("confirm", &[0, 1, 10, 11, 14]),
+        ("mend", &[0, 1, 10, 14, 17]),
     ];
     let others = [
         "next_tag: tag",
@@ -217,7 +288,7 @@ fn answers_to_meet() -> Vec<String> {
         all.push(format!("{call}: on long buffers"));
         all.extend(answers.iter().map(|n| format!("{call}: {}", answered(*n))));
     }
-    for call in ["check_image", "power_up", "arm", "confirm"] {
+    for call in ["check_image", "power_up", "arm", "confirm", "mend"] {
         for what in ["of 512 sectors", "of 511 sectors, the trailer full", "refused 1 for the trailer"] {
             all.push(format!("{call}: {what}"));
         }
@@ -236,7 +307,7 @@ fn answers_to_meet() -> Vec<String> {
 }
 
 fn lengths_to_meet() -> Vec<(String, &'static str)> {
-    let buffers: [(&str, &[&str]); 11] = [
+    let buffers: [(&str, &[&str]); 12] = [
         ("sha256", &["digest"]),
         ("read_header", &["numbers", "bytes"]),
         ("write_header", &["bytes", "place"]),
@@ -248,6 +319,7 @@ fn lengths_to_meet() -> Vec<(String, &'static str)> {
         ("power_up", &["boot", "update", "swap", "answer"]),
         ("arm", &["boot", "update", "swap", "count"]),
         ("confirm", &["boot", "update", "swap", "count"]),
+        ("mend", &["boot", "update", "swap", "numbers"]),
     ];
     let mut all = Vec::new();
     for (call, names) in buffers {

@@ -6,7 +6,7 @@ use std::fs::File;
 use std::io::{self, Read};
 use tainhosa::{Header, HEADER_LENGTH};
 
-/// The most bytes of a firmware or an image that are read: 32 times what the largest partition holds.
+/// The most bytes of a firmware, an image or a dump that are read: four times what the largest partition holds.
 pub const LIMIT: u64 = 256 << 20;
 /// The most bytes of a release sheet.
 const SHEET_LIMIT: u64 = 1 << 20;
@@ -50,6 +50,11 @@ pub fn sheet(path: &OsStr) -> Result<Vec<u8>, Stop> {
 
 /// A firmware.
 pub fn firmware(path: &OsStr) -> Result<Vec<u8>, Stop> {
+    read(path, LIMIT)
+}
+
+/// A dump of BOOT, UPDATE or SWAP.
+pub fn dump(path: &OsStr) -> Result<Vec<u8>, Stop> {
     read(path, LIMIT)
 }
 

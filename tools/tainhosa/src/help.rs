@@ -6,7 +6,7 @@ macro_rules! usage {
     };
 }
 
-usage!(USAGE, "tainhosa digest|make|list|check|compare|explain|simulate ...");
+usage!(USAGE, "tainhosa digest|make|list|check|compare|explain|simulate|mend ...");
 usage!(DIGEST_USAGE, "tainhosa digest [--json] FIRMWARE");
 usage!(MAKE_USAGE, "tainhosa make [--force] [--json] SHEET FIRMWARE IMAGE");
 usage!(LIST_USAGE, "tainhosa list [--tags] [--json] IMAGE");
@@ -17,6 +17,7 @@ usage!(
     SIMULATE_USAGE,
     "tainhosa simulate --boot IMAGE --update IMAGE --sectors N --size S [--cut K]... [--torn] [--confirm|--fall-back] [--json]"
 );
+usage!(MEND_USAGE, "tainhosa mend --sectors N --size S [--dry-run] [--json] BOOT UPDATE SWAP");
 
 pub const ALL: &str = include_str!("../help/tainhosa.txt");
 pub const DIGEST: &str = include_str!("../help/digest.txt");
@@ -26,3 +27,4 @@ pub const CHECK: &str = include_str!("../help/check.txt");
 pub const COMPARE: &str = include_str!("../help/compare.txt");
 pub const EXPLAIN: &str = include_str!("../help/explain.txt");
 pub const SIMULATE: &str = include_str!("../help/simulate.txt");
+pub const MEND: &str = include_str!("../help/mend.txt");

@@ -1,4 +1,5 @@
-//! The command `tainhosa`: its parts make, list, check and compare firmware images, explain refusals, and simulate an update.
+//! The command `tainhosa`: its parts make, list, check and compare firmware images, explain refusals, simulate an update, and mend the
+//! lost flags of one.
 #![deny(missing_docs)]
 
 mod arguments;
@@ -9,6 +10,7 @@ mod output;
 mod parts;
 mod said;
 mod signals;
+mod temporary;
 
 use arguments::Given;
 use said::{Said, Stop};

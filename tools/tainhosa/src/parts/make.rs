@@ -1,62 +1,17 @@
 //! `tainhosa make`: the image of a firmware, with the values of a release sheet.
 use crate::arguments::Parsed;
+use crate::files;
 use crate::json::Json;
 use crate::output::{self, in_words};
 use crate::said::{line, Said, Stop};
-use crate::{files, signals};
+use crate::temporary::Temporary;
 use std::ffi::OsStr;
-use std::fs::{self, File, OpenOptions};
-use std::io::{self, ErrorKind, Write};
+use std::fs;
+use std::io::{self, ErrorKind};
 use std::os::unix::ffi::OsStrExt;
 use std::os::unix::fs::MetadataExt;
-use std::path::{Path, PathBuf};
+use std::path::Path;
 use tainhosa::{Header, Image, Refusal, Sheet};
-
-/// A new file beside the image, which goes away unless it becomes the image.
-struct Temporary(PathBuf);
-
-impl Temporary {
-    fn new(folder: &Path) -> io::Result<(Temporary, File)> {
-        let mut number = 0;
-        loop {
-            let path = folder.join(format!(".tainhosa-{}-{number}", std::process::id()));
-            match OpenOptions::new().write(true).create_new(true).open(&path) {
-                Ok(file) => {
-                    signals::remove_if_interrupted(Some(&path));
-                    return Ok((Temporary(path), file));
-                }
-                Err(error) if error.kind() == ErrorKind::AlreadyExists && number < 1000 => number += 1,
-                Err(error) => return Err(error),
-            }
-        }
-    }
-
-    /// Gives it the image's name. Without force an image that stands there stays, and that is an error.
-    fn become_image(&self, image: &Path, force: bool) -> io::Result<()> {
-        if force {
-            return fs::rename(&self.0, image);
-        }
-        match fs::hard_link(&self.0, image) {
-            Err(error) if error.kind() != ErrorKind::AlreadyExists => {
-                // A file system without links: the name is claimed by an empty file, which nobody else can have made.
-                OpenOptions::new().write(true).create_new(true).open(image)?;
-                fs::rename(&self.0, image).map_err(|error| {
-                    let _ = fs::remove_file(image);
-                    error
-                })
-            }
-            done => done,
-        }
-    }
-}
-
-impl Drop for Temporary {
-    fn drop(&mut self) {
-        // Where it was renamed there is nothing left to remove.
-        let _ = fs::remove_file(&self.0);
-        signals::remove_if_interrupted(None);
-    }
-}
 
 /// Sees that the image's name is free, or with force that of a plain file that was not read for this image.
 fn see_free(image: &OsStr, force: bool, read: &[&OsStr]) -> Result<(), Stop> {
@@ -86,19 +41,14 @@ fn see_free(image: &OsStr, force: bool, read: &[&OsStr]) -> Result<(), Stop> {
 /// Writes the image, and tells `out` before the image has its name: where that fails, there is no image.
 fn write(path: &OsStr, bytes: &[u8], force: bool, out: &str) -> Result<(), Stop> {
     let image = Path::new(path);
-    let folder = image.parent().filter(|p| !p.as_os_str().is_empty()).unwrap_or_else(|| Path::new("."));
     let stop = |error: io::Error| match error.kind() {
         ErrorKind::AlreadyExists => Stop::new(format!("{}: it is there already, and stays without --force", files::name(path))),
         _ => Stop::new(format!("{}: {}", files::name(path), in_words(&error))),
     };
-    let (temporary, mut file) = Temporary::new(folder).map_err(stop)?;
-    file.write_all(bytes).and_then(|()| file.sync_all()).map_err(stop)?;
-    drop(file);
+    let temporary = Temporary::beside(image, bytes, None).map_err(stop)?;
     output::write(out)?;
-    temporary.become_image(image, force).map_err(stop)?;
-    // So that the name lasts too; a folder that can't be synchronised is no reason to call the image unmade.
-    let _ = File::open(folder).and_then(|folder| folder.sync_all());
-    Ok(())
+    let named = if force { temporary.take_place_of(image) } else { temporary.take_free_name(image) };
+    named.map_err(stop)
 }
 
 /// The image is what the sheet and the firmware say: a fault of this command must not become a release.

@@ -5,6 +5,7 @@ mod digest;
 mod explain;
 mod list;
 mod make;
+mod mend;
 mod simulate;
 
 use crate::arguments::Parsed;
@@ -27,7 +28,7 @@ pub struct Part {
 }
 
 /// Every part.
-pub const ALL: [Part; 7] = [
+pub const ALL: [Part; 8] = [
     Part {
         name: "digest",
         usage: help::DIGEST_USAGE,
@@ -97,5 +98,15 @@ pub const ALL: [Part; 7] = [
         options: &["--boot", "--update", "--sectors", "--size", "--cut"],
         repeated: &["--cut"],
         run: simulate::run,
+    },
+    Part {
+        name: "mend",
+        usage: help::MEND_USAGE,
+        help: help::MEND,
+        words: 3..=3,
+        switches: &["--json", "--dry-run"],
+        options: &["--sectors", "--size"],
+        repeated: &[],
+        run: mend::run,
     },
 ];
