@@ -1,13 +1,13 @@
 -- What each call answers where its buffers have their lengths. Assumes nothing.
 use mathlib.Core.Path.{_≡_, refl, sym, ap, ap₂, _∙_}
-use Prim.Native.Nat.{ℕ}
+use Prim.Native.Nat.{ℕ, _-_}
 use mathlib.Core.List.{List, [], _∷_}
 use lib.ListN.{length, set}
 use native.Mathlib.Omega.{arith}
 use borrow.Author.Tests.{eq-eqb}
 use Rattle.numbers.specs.Answer.{Answer, refused}
 use Rattle.flash.specs.Sizes.{geometry}
-use Rattle.flash.specs.Buffers.{Flash}
+use Rattle.flash.specs.Buffers.{Flash, flash}
 use Rattle.header_reader.specs.declared.Header.{Header}
 use Rattle.header_reader.specs.declared.HeaderAnswer.{HeaderAnswer}
 use Rattle.header_reader.specs.Reading.{readHeader, valuesOf, blank, Reads}
@@ -33,6 +33,9 @@ use Rattle.exchange_commands.specs.declared.CommandAnswer.{CommandAnswer}
 use Rattle.exchange_commands.specs.Numbers.{commandOf, commanded}
 use Rattle.header_tags.specs.Walk.{Item, walkAt, placeBehind}
 use Rattle.numbers.specs.declared.Refused.{Refused}
+use Rattle.mend.specs.declared.MendAnswer.{MendAnswer}
+use Rattle.mend.specs.Delivered.{mendOf, MendDelivers}
+use Rattle.c_mend.specs.Rows.{mendRow}
 use Rattle.c_power_up.specs.declared.Ended.{Ended}
 use Rattle.c_headers.specs.Rows.{headerNumbers, bytesOf, tagRow}
 use Rattle.c_power_up.specs.Outcomes.{endedOf, countOf, powerRow}
@@ -40,7 +43,7 @@ use Rattle.numbers.proofs.Refusals.{beside-refusal}
 use Rattle.tainhosa.specs.Headers.{afterHeader, given, laidOut, readAnswer, firmwareAnswer, afterWrite, wrote, wroteFrom}
 use Rattle.tainhosa.specs.Releases.{sheetRead}
 use Rattle.tainhosa.specs.Walking.{afterTag, tagAnswer}
-use Rattle.tainhosa.specs.Loading.{afterCall, poweredUp, powerUpAnswer, obeyed, commandAnswer}
+use Rattle.tainhosa.specs.Loading.{afterCall, poweredUp, powerUpAnswer, obeyed, commandAnswer, mendedBy, mendAnswer}
 
 -- a header's values in buffers of their lengths
 pub laid : (n b n′ b′ : List ℕ) (x : Refused) (v : Header) → length n ≡ 6 → length b ≡ 128 → n′ ≡ headerNumbers (x .place) v → b′ ≡ bytesOf v
@@ -117,3 +120,9 @@ module _ (f f′ : Flash) (row row′ : List ℕ) where
       → x ≡ refusalOf (commandOf r) .number → k ≡ countOf (commandOf r) → row′ ≡ k ∷ []
       → afterCall x row′ f′ ≡ commandAnswer c f row
   commanded-on c r x k h p ex ek er = rw (eq-eqb (length row) 1 h, er, ex, ek) (ap obeyed p)
+
+-- ---- mending
+
+pub mended-on : (n s : ℕ) (f : Flash) (u row row′ : List ℕ) (a : MendAnswer) (x : ℕ) → length row ≡ 3 → MendDelivers n s f a u
+    → x ≡ refusalOf (mendOf a) .number → row′ ≡ mendRow (n - 1) (mendOf a) → afterCall x row′ (flash (f .boot) u (f .swap)) ≡ mendAnswer n s f row
+mended-on n s f u row row′ a x h e ex er = rw (eq-eqb (length row) 3 h, er, ex) (ap (mendedBy n) e)

@@ -1,5 +1,5 @@
--- What a C caller of `tainhosa_power_up`, `tainhosa_arm` and `tainhosa_confirm` gets.
-use Prim.Native.Nat.{ℕ}
+-- What a C caller of `tainhosa_power_up`, `tainhosa_arm`, `tainhosa_confirm` and `tainhosa_mend` gets.
+use Prim.Native.Nat.{ℕ, _-_}
 use mathlib.Core.Bool.{cond}
 use mathlib.Core.List.{List, [], _∷_}
 use lib.Dec.{eqb}
@@ -10,6 +10,8 @@ use Rattle.exchange.specs.PowerUp.{PowerUp, powerUp}
 use Rattle.exchange.specs.Commands.{Command, armCommand, confirmCommand}
 use Rattle.image.specs.Verdict.{checkOf}
 use Rattle.numbers.specs.GivenBack.{refusalOf, reasonRefusal}
+use Rattle.mending.specs.Mending.{Mend, mending}
+use Rattle.c_mend.specs.Rows.{mendRow}
 use Rattle.c_power_up.specs.Outcomes.{endedOf, countOf, powerRow}
 
 -- ---- power-up
@@ -55,3 +57,13 @@ armAnswer n s f row = commandAnswer (armCommand (geometry n s) f) f row
 -- "Confirm": asked for n sectors of s bytes, on the flash f.
 abbrev pub confirmAnswer : ℕ → ℕ → Flash → List ℕ → Loaded
 confirmAnswer n s f row = commandAnswer (confirmCommand (geometry n s) f) f row
+
+-- ---- mending
+
+-- What the library's mending of n sectors answers and leaves: the row has the mark's sector and flag and the number of bytes that differ.
+abbrev pub mendedBy : ℕ → Mend → Loaded
+mendedBy n r = afterCall (refusalOf (r .answer) .number) (mendRow (n - 1) (r .answer)) (r .flash)
+
+-- "Mend lost flags": asked for n sectors of s bytes, on the flash f. Its row has 3 numbers.
+abbrev pub mendAnswer : ℕ → ℕ → Flash → List ℕ → Loaded
+mendAnswer n s f row = cond (eqb (length row) 3) (mendedBy n (mending checkOf (geometry n s) f)) (wrongRow row f)

@@ -12,7 +12,7 @@ ghost use Rattle.tainhosa.specs.Digest.{afterDigest, sha256Answer};
 ghost use Rattle.tainhosa.specs.Headers.{afterHeader, given, readAnswer, checkAnswer, firmwareAnswer, valuesFrom, afterWrite, writeAnswer};
 ghost use Rattle.tainhosa.specs.Releases.{sheetRead, statedFrom, makeAnswer};
 ghost use Rattle.tainhosa.specs.Walking.{afterTag, tagAnswer};
-ghost use Rattle.tainhosa.specs.Loading.{afterCall, powerUpAnswer, armAnswer, confirmAnswer};
+ghost use Rattle.tainhosa.specs.Loading.{afterCall, powerUpAnswer, armAnswer, confirmAnswer, mendAnswer};
 
 // How many numbers and bytes a header's values are.
 const HEADER_NUMBERS: usize = 6;
@@ -34,6 +34,8 @@ const TAG_NUMBERS: usize = 6;
 const POWER_UP_NUMBERS: usize = 6;
 
 const COMMAND_NUMBERS: usize = 1;
+
+const MEND_NUMBERS: usize = 3;
 
 // A length outside the rules.
 const WRONG_LENGTH: u32 = 1;
@@ -315,4 +317,26 @@ pub extern "C" fn tainhosa_confirm(
     let row = [c_power_up::count_of(a)];
     c_headers::put_numbers(count, &row);
     c_power_up::of_command(a)
+}
+
+// Mends lost flags in UPDATE: those of the first mark that fits. BOOT and SWAP are only read.
+#[no_mangle]
+pub extern "C" fn tainhosa_mend<'a>(
+    sectors: usize,
+    size: usize,
+    boot: &'a [u8],
+    update: &'a mut [u8],
+    swap: &'a [u8],
+    numbers: &mut [u64],
+) -> u32
+    ensures { λ r. ⌜ afterCall r (now (numbers .exit)) (lent (boot .entry) (update .exit) (swap .entry))
+        ≡ mendAnswer sectors size (lent (boot .entry) (update .entry) (swap .entry)) (now (numbers .entry)) ⌝ }
+{
+    if numbers.len() != MEND_NUMBERS {
+        return WRONG_LENGTH;
+    }
+    let a = mend::mend(sectors, size, boot, update, swap);
+    let row = c_mend::row_of(sectors, a);
+    c_headers::put_numbers(numbers, &row);
+    c_mend::of_mend(a)
 }

@@ -1,0 +1,2 @@
+-- The row of what mending answers.
+pub mod Rows
