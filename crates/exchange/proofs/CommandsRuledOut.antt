@@ -64,7 +64,7 @@ module _ (g : Geometry) (f : Flash) where
   by-reads : (rest : BootStatus → UpdateStatus → Answer (Unit {0})) {b : BootStatus} {u : UpdateStatus} {v : Flags} → Reads g f b u v → checked g f rest ≡ rest b u
   by-reads rest r = rw (r .fit, r .boot, r .update) refl
 
-  by-outside : (rest : BootStatus → UpdateStatus → Answer (Unit {0})) → fits g f ≡ false → checked g f rest ≡ refused 1 0
+  pub by-outside : (rest : BootStatus → UpdateStatus → Answer (Unit {0})) → fits g f ≡ false → checked g f rest ≡ refused 1 0
   by-outside rest e = rw e refl
 
   boot-ten : (n p : ℕ) → bootStatusAt g (f .boot) ≡ refused n p → bootStatusAt g (f .boot) ≡ refused 10 0
@@ -73,10 +73,10 @@ module _ (g : Geometry) (f : Flash) where
   update-ten : (n p : ℕ) → updateStatusAt g (f .update) ≡ refused n p → updateStatusAt g (f .update) ≡ refused 10 0
   update-ten n p e = e ∙ sym (update-refused (statusByte g (f .update)) n p e)
 
-  by-boot : (rest : BootStatus → UpdateStatus → Answer (Unit {0})) (n p : ℕ) → fits g f ≡ true → bootStatusAt g (f .boot) ≡ refused n p → checked g f rest ≡ refused 10 0
+  pub by-boot : (rest : BootStatus → UpdateStatus → Answer (Unit {0})) (n p : ℕ) → fits g f ≡ true → bootStatusAt g (f .boot) ≡ refused n p → checked g f rest ≡ refused 10 0
   by-boot rest n p e h = rw (e, boot-ten n p h) refl
 
-  by-update : (rest : BootStatus → UpdateStatus → Answer (Unit {0})) (n p : ℕ) → fits g f ≡ true → updateStatusAt g (f .update) ≡ refused n p → checked g f rest ≡ refused 10 0
+  pub by-update : (rest : BootStatus → UpdateStatus → Answer (Unit {0})) (n p : ℕ) → fits g f ≡ true → updateStatusAt g (f .update) ≡ refused n p → checked g f rest ≡ refused 10 0
   by-update rest n p e h = rw (e, update-ten n p h) (by (bootStatusAt g (f .boot)) refl)
     where
       by : (bs : Answer BootStatus) → bootStatusAt g (f .boot) ≡ bs → withStatuses bs (refused 10 0) rest ≡ refused 10 0
@@ -85,22 +85,22 @@ module _ (g : Geometry) (f : Flash) where
 
 -- ---- and what was read, by what the checks answer
 
-record Passed (g : Geometry) (f : Flash) (rest : BootStatus → UpdateStatus → Answer (Unit {0})) : Type 0 where
+pub record Passed (g : Geometry) (f : Flash) (rest : BootStatus → UpdateStatus → Answer (Unit {0})) : Type 0 where
   pub boot : BootStatus
   pub update : UpdateStatus
   pub reads : Reads g f boot update (flagsAt g (f .update))
   pub granted : rest boot update ≡ gives tt
 
 -- a refusal's number is one of these, and its place is 0
-record Listed (Number : ℕ → Type 0) (n p : ℕ) : Type 0 where
+pub record Listed (Number : ℕ → Type 0) (n p : ℕ) : Type 0 where
   pub number : Number n
   pub place : p ≡ 0
 
-listed : (Number : ℕ → Type 0) {m n p : ℕ} → Number m → m ≡ n → p ≡ 0 → Listed Number n p
+pub listed : (Number : ℕ → Type 0) {m n p : ℕ} → Number m → m ≡ n → p ≡ 0 → Listed Number n p
 listed Number x e h = record { number = subst Number e x; place = h }
 
 module _ (g : Geometry) (f : Flash) (rest : BootStatus → UpdateStatus → Answer (Unit {0})) where
-  passed : checked g f rest ≡ gives tt → Passed g f rest
+  pub passed : checked g f rest ≡ gives tt → Passed g f rest
   passed e = by (fits g f) (bootStatusAt g (f .boot)) (updateStatusAt g (f .update)) refl refl refl e
     where
       by : (t : Bool) (bs : Answer BootStatus) (us : Answer UpdateStatus) → fits g f ≡ t → bootStatusAt g (f .boot) ≡ bs → updateStatusAt g (f .update) ≡ us
@@ -111,7 +111,7 @@ module _ (g : Geometry) (f : Flash) (rest : BootStatus → UpdateStatus → Answ
       by true (refused n p) us e e₁ e₂ h = absurd (let z : _≡_ {A = ℕ} 0 1 = cc in omega arith)
       by false bs us e e₁ e₂ h = absurd (let z : _≡_ {A = ℕ} 0 1 = cc in omega arith)
 
-  not-passed : (Number : ℕ → Type 0) → Number 1 → Number 10 → ((b : BootStatus) (u : UpdateStatus) (n p : ℕ) → rest b u ≡ refused n p → Listed Number n p)
+  pub not-passed : (Number : ℕ → Type 0) → Number 1 → Number 10 → ((b : BootStatus) (u : UpdateStatus) (n p : ℕ) → rest b u ≡ refused n p → Listed Number n p)
       → (n p : ℕ) → checked g f rest ≡ refused n p → Listed Number n p
   not-passed Number one ten later n p e = by (fits g f) (bootStatusAt g (f .boot)) (updateStatusAt g (f .update)) refl refl e
     where

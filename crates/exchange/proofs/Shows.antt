@@ -7,8 +7,8 @@ use native.Mathlib.Omega.{arith}
 use Rattle.numbers.specs.Answer.{gives}
 use Rattle.exchange.specs.Base.{Geometry, BootStatus, UpdateStatus, Exchanged}
 use Rattle.exchange.specs.Base.{firmware, Flash, bootStatusAt, updateStatusAt, moved}
-use Rattle.exchange.specs.Demand.{Exchange, Underway, from-new, from-success, from-testing, Finished, InPlace, flagRank, FlagMovedOn, FlagNotBack, AtFinish}
-use Rattle.flash_flags.specs.SectorFlags.{legMoves}
+use Rattle.exchange.specs.Demand.{Exchange, Underway, from-new, from-success, from-testing, Finished, InPlace, FlagMovedOn, FlagNotBack, AtFinish}
+use Rattle.flash_flags.specs.SectorFlags.{flagRank, legMoves}
 use Rattle.flash_flags.proofs.Moves.{leg-below}
 use Rattle.exchange.proofs.Stage.{Closing, erase-boot, write-testing, erase-update, write-success, closing, closingLeft, Closed, on-test, fallen-back, Swapped, Stage, in-leg, at-last, at-end}
 use Rattle.exchange.proofs.Walked.{closing-some}

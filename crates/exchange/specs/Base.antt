@@ -21,5 +21,5 @@ pub use Rattle.flash_flags.specs.declared.Leg.{Leg}
 pub use Rattle.flash_flags.specs.declared.Leg.the-variants.{UpdateToSwap, BootToUpdate, SwapToBoot}
 pub use Rattle.flash_flags.specs.declared.Flags.{Flags}
 pub use Rattle.flash_flags.specs.declared.Flags.the-variants.{Malformed, AllF, At, All0}
-pub use Rattle.flash_flags.specs.SectorFlags.{flagValue, moved}
+pub use Rattle.flash_flags.specs.SectorFlags.{flagValue, flagRank, moved}
 unfoldable pub use Rattle.flash_flags.specs.SectorFlags.{flagOf, flagByte, half, flagAt, setFlag, flagsFrom, flags, allF, pastZeros, flagsShown, flagsAt}

@@ -26,7 +26,7 @@ withStatuses (refused n p) u rest = refused n p
 withStatuses (gives b) (refused n p) rest = refused n p
 withStatuses (gives b) (gives u) rest = rest b u
 
--- The checks that both begin with: geometry and lengths, the statuses; then `rest`.
+-- The checks that arm, confirm and mending begin with: geometry and lengths, the statuses; then `rest`.
 abbrev pub checked : Geometry → Flash → (BootStatus → UpdateStatus → Answer (Unit {0})) → Answer (Unit {0})
 checked g f rest = cond (fits g f) (withStatuses (bootStatusAt g (f .boot)) (updateStatusAt g (f .update)) rest) (refused 1 0)
 

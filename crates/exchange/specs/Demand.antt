@@ -6,8 +6,8 @@ use mathlib.Core.List.{List}
 use Prim.Native.Nat.{ℕ, _+_, _-_, _*_, _≤_, _<_}
 use lib.ListN.{length}
 use Rattle.numbers.specs.Answer.{gives, numbered, Reason, noReason}
-use Rattle.exchange.specs.Base.{Geometry, BootStatus, BootNew, Testing, Success, UpdateStatus, UpdateNew, Updating, Flag, Untouched, Saved, Moved, Exchanged, Known, Flags, AllF, All0}
-use Rattle.exchange.specs.Base.{firmware, partitionSize, firmwareOf, erased, Flash, fits, bootStatusAt, updateStatusAt, moved, flagAt, flagsAt}
+use Rattle.exchange.specs.Base.{Geometry, BootStatus, BootNew, Testing, Success, UpdateStatus, UpdateNew, Updating, Flag, Known, Flags, AllF, All0}
+use Rattle.exchange.specs.Base.{firmware, partitionSize, firmwareOf, erased, Flash, fits, bootStatusAt, updateStatusAt, flagRank, moved, flagAt, flagsAt}
 use Rattle.exchange.specs.declared.Area.the-variants.{Boot, Update}
 use Rattle.exchange.specs.declared.Job.{Job}
 use Rattle.exchange.specs.declared.Job.the-variants.{Update as UpdateJob, Fallback as FallbackJob}
@@ -158,13 +158,6 @@ abbrev pub earlyEnds : {E : Type 0} → (Flash → E → Left) → Flash → Lis
 earlyEnds see f es = summed (flashLeft see) (λ before e. (see before e) .early) f es
 
 -- ---- what is claimed of each power-up
-
--- A flag goes from F to 7, to 3, to 0: how far it has come.
-abbrev pub flagRank : Flag → ℕ
-flagRank Untouched = 0
-flagRank Saved = 1
-flagRank Moved = 2
-flagRank Exchanged = 3
 
 -- Some firmware sector's flag has moved on.
 pub record FlagMovedOn (g : Geometry) (before after : Flash) : Type 0 where

@@ -23,7 +23,13 @@ flagValue Saved = 7
 flagValue Moved = 3
 flagValue Exchanged = 0
 
--- a flag goes from F to 7, to 3, to 0: the flag with a moves behind it
+-- a flag goes from F to 7, to 3, to 0: how many moves it has behind it; and the flag with a moves behind it
+abbrev pub flagRank : Flag → ℕ
+flagRank Untouched = 0
+flagRank Saved = 1
+flagRank Moved = 2
+flagRank Exchanged = 3
+
 abbrev pub moved : ℕ → Flag
 moved zero = Untouched
 moved (suc zero) = Saved
@@ -37,9 +43,7 @@ legFlag BootToUpdate = Saved
 legFlag SwapToBoot = Moved
 
 abbrev pub legMoves : Leg → ℕ
-legMoves UpdateToSwap = 0
-legMoves BootToUpdate = 1
-legMoves SwapToBoot = 2
+legMoves leg = flagRank (legFlag leg)
 
 -- the flag whose value a half byte is
 unfoldable pub flagOf : ℕ → FlagRead

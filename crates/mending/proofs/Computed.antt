@@ -5,7 +5,6 @@ use Prim.Native.Nat.{ℕ}
 use native.Mathlib.Omega.{arith}
 use lib.ListN.{getD}
 use lib.Seq.{getD-take}
-use Rattle.numbers.specs.Answer.{gives}
 use Rattle.flash.specs.Sizes.{firmware, withinLimits}
 use Rattle.flash.specs.Sectors.{part, patch, erased}
 use Rattle.flash.specs.Buffers.{partitionFits, fits}
@@ -35,12 +34,13 @@ unfolding
 witness = record {
   reads = reads;
   starts = record { decided = refl; flagsF = refl };
+  order = refl;
+  none = refl;
+  bad = refl;
   six = refl;
   fifteen = refl;
   mends = refl;
   leaves = refl;
-  none = refl;
-  bad = refl;
   lastMark = refl;
   lastLeaves = refl;
   earlier = refl;

@@ -13,93 +13,115 @@ use Rattle.flash_status.specs.declared.BootStatus.the-variants.{New as BootNew,
 use Rattle.flash_status.specs.declared.UpdateStatus.{UpdateStatus}
 use Rattle.flash_status.specs.declared.UpdateStatus.the-variants.{New as UpdateNew, Updating}
 use Rattle.flash_status.specs.StatusBytes.{statusPlace, statusByte, bootStatusAt, updateStatusOf, updateStatusAt}
+use Rattle.flash_flags.specs.SectorFlags.{flagsAt}
 use Rattle.exchange.specs.Decision.{Check}
-use Rattle.exchange.specs.Commands.{withStatuses, checked}
+use Rattle.exchange.specs.Commands.{checked}
 use Rattle.exchange.specs.Demand.{ReadsFirmware, update, Underway, from-new, from-success}
-use Rattle.exchange.specs.RuledOut.{StatusBad, inBoot, inUpdate}
+use Rattle.exchange.specs.RuledOut.{Reads, StatusBad, inBoot, inUpdate}
+use Rattle.exchange.specs.CommandsRuledOut.{ArmNumber, outsideRules, statusNotAllowed, wrongTime}
 use Rattle.flash.proofs.Checked.{shaped-of}
 use Rattle.flash_flags.proofs.Laws.{flag-place}
-use Rattle.flash_status.proofs.Ten.{boot-refused, update-refused}
+use Rattle.exchange.proofs.CommandsRuledOut.{by-outside, by-boot, by-update, Listed, listed, passed, not-passed}
 use Rattle.mending.specs.declared.Mark.{Mark}
 use Rattle.mending.specs.Marks.{marks}
 use Rattle.mending.specs.OldImages.{fitsMark}
 use Rattle.mending.specs.Mending.{firstFitting, mayMend, found, setFlags, changed, Given, given, Mend, withMark, mending}
-use Rattle.mending.specs.Mended.{GivesIfFits, GivesFirst, MayMend, NoneFits, SeventeenIfNone, RefusedBefore, RefusesInOrder, MendNumber, outsideRules, statusNotAllowed, wrongTime, noMarkFits, RefusesWith, ButFlags, OnlyFlags, WritesFlags, bytesDiffering, CountsBytes, FlagsNotRead, markOf}
+use Rattle.mending.specs.Mended.{GivesIfFits, GivesFirst, MayMend, NoneFits, SeventeenIfNone, MendRefusedFirst, RefusesInOrder, MendNumber, asArm, noMarkFits, RefusesWith, ButFlags, OnlyFlags, WritesFlags, bytesDiffering, CountsBytes, FlagsNotRead, markOf}
 use Rattle.mending.proofs.Order.{given-first, refused-none, none-refused, before-moves, some-given}
 use Rattle.mending.proofs.Images.{fits-true, true-fits, false-not, not-false, but-fits}
 use Rattle.mending.proofs.Counted.{all-counted}
 use Rattle.mending.proofs.Written.{only-flags}
 
--- ---- the checks before the marks
+-- ---- a refusal
 
--- their numbers
-data Earlier : ℕ → ℕ → Type 0 where
-  lengths : Earlier 1 0
-  status : Earlier 10 0
-  pair : Earlier 14 0
+-- 14 for every status pair but two
+other-pair : (b : BootStatus) (u : UpdateStatus) → ¬ Underway update b u → mayMend b u ≡ refused 14 0
+other-pair BootNew Updating k = absurd (k from-new)
+other-pair Success Updating k = absurd (k from-success)
+other-pair Testing Updating k = refl
+other-pair BootNew UpdateNew k = refl
+other-pair Success UpdateNew k = refl
+other-pair Testing UpdateNew k = refl
 
-earlier-number : {n p : ℕ} → Earlier n p → MendNumber n p
-earlier-number lengths = outsideRules
-earlier-number status = statusNotAllowed
-earlier-number pair = wrongTime
+-- it writes nothing
+refused-same : (g : Geometry) (f : Flash) (n p : ℕ) → withMark g f (refused n p) .flash ≡ f
+refused-same g f n p = refl
 
-earlier-not-17 : {n p : ℕ} → Earlier n p → ¬ (n ≡ 17)
-earlier-not-17 lengths e = omega arith
-earlier-not-17 status e = omega arith
-earlier-not-17 pair e = omega arith
+module _ (check : Check) (g : Geometry) (f : Flash) where
+  -- the checks come before the marks
+  refused-by : (n p : ℕ) → checked g f mayMend ≡ refused n p → mending check g f .answer ≡ refused n p
+  unfolding mending found
+  refused-by n p e = rw e refl
 
-is-ten : (n p : ℕ) → 10 ≡ n → 0 ≡ p → Earlier n p
-is-ten n p a b = subst (λ (x : ℕ). Earlier x p) a (subst (λ (y : ℕ). Earlier 10 y) b status)
+  status-bad : fits g f ≡ true → StatusBad g f → checked g f mayMend ≡ refused 10 0
+  status-bad h (inBoot n p e) = by-boot g f mayMend n p h e
+  status-bad h (inUpdate n p e) = by-update g f mayMend n p h e
 
--- they give leave, or refuse with one of these
-data Leave (g : Geometry) (f : Flash) : Answer (Unit {0}) → Type 0 where
-  leave : MayMend g f → Leave g f (gives tt)
-  other : (n p : ℕ) → Earlier n p → Leave g f (refused n p)
+  refused-first : MendRefusedFirst check g f
+  refused-first = record {
+    outside = λ h. refused-by 1 0 (by-outside g f mayMend h);
+    status = λ h s. refused-by 10 0 (status-bad h s);
+    pair = λ h b u e₁ e₂ k. refused-by 14 0 (rw (h, e₁, e₂) (other-pair b u k));
+  }
+
+pub refuses-in-order : RefusesInOrder
+refuses-in-order check g f = refused-first check g f
+
+-- ---- what the checks leave
+
+underway-mends : (b : BootStatus) → Underway update b Updating → mayMend b Updating ≡ gives tt
+underway-mends b from-new = refl
+underway-mends b from-success = refl
+
+mends-underway : (b : BootStatus) (u : UpdateStatus) → mayMend b u ≡ gives tt → Underway update b u
+mends-underway BootNew Updating e = from-new
+mends-underway Success Updating e = from-success
+mends-underway Testing Updating e = absurd (let z : _≡_ {A = ℕ} 0 1 = cc in omega arith)
+mends-underway BootNew UpdateNew e = absurd (let z : _≡_ {A = ℕ} 0 1 = cc in omega arith)
+mends-underway Success UpdateNew e = absurd (let z : _≡_ {A = ℕ} 0 1 = cc in omega arith)
+mends-underway Testing UpdateNew e = absurd (let z : _≡_ {A = ℕ} 0 1 = cc in omega arith)
+
+pair-number : (b : BootStatus) (u : UpdateStatus) (n p : ℕ) → mayMend b u ≡ refused n p → Listed ArmNumber n p
+pair-number BootNew Updating n p e = absurd (let z : _≡_ {A = ℕ} 0 1 = cc in omega arith)
+pair-number Success Updating n p e = absurd (let z : _≡_ {A = ℕ} 0 1 = cc in omega arith)
+pair-number Testing Updating n p e = listed ArmNumber wrongTime (cc) (cc)
+pair-number BootNew UpdateNew n p e = listed ArmNumber wrongTime (cc) (cc)
+pair-number Success UpdateNew n p e = listed ArmNumber wrongTime (cc) (cc)
+pair-number Testing UpdateNew n p e = listed ArmNumber wrongTime (cc) (cc)
 
 module _ (g : Geometry) (f : Flash) where
-  by-statuses : fits g f ≡ true → (b : BootStatus) (u : UpdateStatus) → bootStatusAt g (f .boot) ≡ gives b → updateStatusAt g (f .update) ≡ gives u
-      → Leave g f (mayMend b u)
-  by-statuses h BootNew Updating e₁ e₂ = leave (record { fit = h; boot = BootNew; statuses = from-new; readBoot = e₁; readUpdate = e₂ })
-  by-statuses h Success Updating e₁ e₂ = leave (record { fit = h; boot = Success; statuses = from-success; readBoot = e₁; readUpdate = e₂ })
-  by-statuses h Testing Updating e₁ e₂ = other 14 0 pair
-  by-statuses h BootNew UpdateNew e₁ e₂ = other 14 0 pair
-  by-statuses h Success UpdateNew e₁ e₂ = other 14 0 pair
-  by-statuses h Testing UpdateNew e₁ e₂ = other 14 0 pair
-
-  by-answers : fits g f ≡ true → (b : Answer BootStatus) (u : Answer UpdateStatus) → bootStatusAt g (f .boot) ≡ b → updateStatusAt g (f .update) ≡ u
-      → Leave g f (withStatuses b u mayMend)
-  by-answers h (refused n p) u e₁ e₂ = let q = boot-refused (statusByte g (f .boot)) n p e₁ in other n p (is-ten n p (cc) (cc))
-  by-answers h (gives b) (refused n p) e₁ e₂ = let q = update-refused (statusByte g (f .update)) n p e₂ in other n p (is-ten n p (cc) (cc))
-  by-answers h (gives b) (gives u) e₁ e₂ = by-statuses h b u e₁ e₂
-
-  leaves : Leave g f (checked g f mayMend)
-  leaves = by (fits g f) refl
-    where
-      by : (t : Bool) → fits g f ≡ t → Leave g f (cond t (withStatuses (bootStatusAt g (f .boot)) (updateStatusAt g (f .update)) mayMend) (refused 1 0))
-      by true h = by-answers h (bootStatusAt g (f .boot)) (updateStatusAt g (f .update)) refl refl
-      by false h = other 1 0 lengths
-
-  underway-mends : (b : BootStatus) → Underway update b Updating → mayMend b Updating ≡ gives tt
-  underway-mends b from-new = refl
-  underway-mends b from-success = refl
-
   may-checked : MayMend g f → checked g f mayMend ≡ gives tt
   may-checked M = rw (M .fit, M .readBoot, M .readUpdate) (underway-mends (M .boot) (M .statuses))
+
+  checked-may : checked g f mayMend ≡ gives tt → MayMend g f
+  checked-may e = let P = passed g f mayMend e in by (P .boot) (P .update) (mends-underway (P .boot) (P .update) (P .granted)) (P .reads)
+    where
+      by : (b : BootStatus) (u : UpdateStatus) → Underway update b u → Reads g f b u (flagsAt g (f .update)) → MayMend g f
+      by b u from-new r = record { fit = r .fit; boot = b; statuses = from-new; readBoot = r .boot; readUpdate = r .update }
+      by b u from-success r = record { fit = r .fit; boot = b; statuses = from-success; readBoot = r .boot; readUpdate = r .update }
+
+  checked-number : (n p : ℕ) → checked g f mayMend ≡ refused n p → Listed ArmNumber n p
+  checked-number n p e = not-passed g f mayMend ArmNumber outsideRules statusNotAllowed pair-number n p e
+
+arm-not-17 : {n : ℕ} → ArmNumber n → ¬ (n ≡ 17)
+arm-not-17 outsideRules e = omega arith
+arm-not-17 statusNotAllowed e = omega arith
+arm-not-17 wrongTime e = omega arith
 
 -- ---- the mark that is found
 
 module _ (check : Check) (g : Geometry) (f : Flash) where
   data Found : Answer Mark → Type 0 where
     looked : MayMend g f → Found (firstFitting (fitsMark check g f) (marks (firmware g)))
-    before : (n p : ℕ) → Earlier n p → Found (refused n p)
+    before : (n p : ℕ) → Listed ArmNumber n p → Found (refused n p)
 
   finds : Found (found check g f)
   unfolding found
-  finds = by (leaves g f)
+  finds = by (checked g f mayMend) refl
     where
-      by : {c : Answer (Unit {0})} → Leave g f c → Found (then c (λ t. firstFitting (fitsMark check g f) (marks (firmware g))))
-      by (leave M) = looked M
-      by (other n p h) = before n p h
+      by : (c : Answer (Unit {0})) → checked g f mayMend ≡ c → Found (then c (λ t. firstFitting (fitsMark check g f) (marks (firmware g))))
+      by (gives t) e = looked (checked-may g f e)
+      by (refused n p) e = before n p (checked-number g f n p e)
 
   pub found-by : MayMend g f → found check g f ≡ firstFitting (fitsMark check g f) (marks (firmware g))
   unfolding found
@@ -121,7 +143,7 @@ module _ (check : Check) (g : Geometry) (f : Flash) where
     where
       by : {r : Answer Mark} → Found r → r ≡ refused 17 0 → Looked (refused 17 0)
       by (looked M) q = record { may = M; is = q }
-      by (before n p h) q = absurd (earlier-not-17 h (cc))
+      by (before n p h) q = absurd (arm-not-17 (h .number) (cc))
 
   pub mend-found : (k : Mark) (n : ℕ) → mending check g f .answer ≡ gives (given k n) → found check g f ≡ gives k
   unfolding mending
@@ -179,74 +201,35 @@ seventeen-if-none check g f = (only, if)
         (mend-by check g f (refused 17 0)
         (found-by check g f (h .0) ∙ none-refused (fitsMark check g f) (firmware g) (λ j a. not-false check g f j (h .1 j a))))
 
--- ---- which refusal
+-- ---- a refusal's number
 
--- 14 for every status pair but those two
-other-pair : (b : BootStatus) (u : UpdateStatus) → ¬ Underway update b u → mayMend b u ≡ refused 14 0
-other-pair BootNew Updating k = absurd (k from-new)
-other-pair Success Updating k = absurd (k from-success)
-other-pair Testing Updating k = refl
-other-pair BootNew UpdateNew k = refl
-other-pair Success UpdateNew k = refl
-other-pair Testing UpdateNew k = refl
+first-17 : (fit : Mark → Bool) (l : List Mark) (n p : ℕ) → firstFitting fit l ≡ refused n p → Listed MendNumber n p
+unfolding firstFitting
+first-17 fit [] n p e = listed MendNumber noMarkFits (cc) (cc)
+first-17 fit (k ∷ l) n p e = by (fit k) e (first-17 fit l n p)
+  where
+    by : (t : Bool) → cond t (gives k) (firstFitting fit l) ≡ refused n p → (firstFitting fit l ≡ refused n p → Listed MendNumber n p) → Listed MendNumber n p
+    by true q more = absurd (let z : _≡_ {A = ℕ} 0 1 = cc in omega arith)
+    by false q more = more q
 
-abbrev as-refusal : {A : Type 0} → Answer A → Answer (Unit {0})
-as-refusal (gives a) = gives tt
-as-refusal (refused n p) = refused n p
-
-module _ (check : Check) (g : Geometry) (f : Flash) where
-  refused-by : (n p : ℕ) → checked g f mayMend ≡ refused n p → mending check g f .answer ≡ refused n p
-  unfolding mending found
-  refused-by n p e = rw e refl
-
-  boot-bad : fits g f ≡ true → (n p : ℕ) → bootStatusAt g (f .boot) ≡ refused n p → checked g f mayMend ≡ refused 10 0
-  boot-bad h n p e = rw (h, e) (sym (ap as-refusal (boot-refused (statusByte g (f .boot)) n p e)))
-
-  update-bad : fits g f ≡ true → (n p : ℕ) → updateStatusAt g (f .update) ≡ refused n p → (r : Answer BootStatus) → bootStatusAt g (f .boot) ≡ r
-      → checked g f mayMend ≡ refused 10 0
-  update-bad h n p e (gives b) q = rw (h, q, e) (sym (ap as-refusal (update-refused (statusByte g (f .update)) n p e)))
-  update-bad h n p e (refused a c) q = boot-bad h a c q
-
-  status-bad : fits g f ≡ true → StatusBad g f → checked g f mayMend ≡ refused 10 0
-  status-bad h (inBoot n p e) = boot-bad h n p e
-  status-bad h (inUpdate n p e) = update-bad h n p e (bootStatusAt g (f .boot)) refl
-
-  refused-before : RefusedBefore check g f
-  refused-before = record {
-    outside = λ h. refused-by 1 0 (rw h refl);
-    status = λ h s. refused-by 10 0 (status-bad h s);
-    pair = λ h b u e₁ e₂ k. refused-by 14 0 (rw (h, e₁, e₂) (other-pair b u k));
-  }
-
-  first-17 : (fit : Mark → Bool) (l : List Mark) (n p : ℕ) → firstFitting fit l ≡ refused n p → MendNumber n p
-  unfolding firstFitting
-  first-17 fit [] n p e = subst (λ (x : ℕ). MendNumber x p) (cc) (subst (λ (y : ℕ). MendNumber 17 y) (cc) noMarkFits)
-  first-17 fit (k ∷ l) n p e = by (fit k) e (first-17 fit l n p)
-    where
-      by : (t : Bool) → cond t (gives k) (firstFitting fit l) ≡ refused n p → (firstFitting fit l ≡ refused n p → MendNumber n p) → MendNumber n p
-      by true q more = absurd (let z : _≡_ {A = ℕ} 0 1 = cc in omega arith)
-      by false q more = more q
-
-  found-number : (n p : ℕ) → found check g f ≡ refused n p → MendNumber n p
-  found-number n p e = by (finds check g f) e
-    where
-      by : {r : Answer Mark} → Found check g f r → r ≡ refused n p → MendNumber n p
-      by (looked M) q = first-17 (fitsMark check g f) (marks (firmware g)) n p q
-      by (before a c h) q = subst (λ (x : ℕ). MendNumber x p) (cc) (subst (λ (y : ℕ). MendNumber a y) (cc) (earlier-number h))
-
-  refuses : (n p : ℕ) → mending check g f .answer ≡ refused n p → MendNumber n p × (mending check g f .flash ≡ f)
-  unfolding mending
-  refuses n p e = by (found check g f) refl e
-    where
-      by : (r : Answer Mark) → found check g f ≡ r → withMark g f r .answer ≡ refused n p → MendNumber n p × (withMark g f r .flash ≡ f)
-      by (gives j) h q = absurd (let z : _≡_ {A = ℕ} 0 1 = cc in omega arith)
-      by (refused a c) h q = (subst (λ (x : ℕ). MendNumber x p) (cc) (subst (λ (y : ℕ). MendNumber a y) (cc) (found-number a c h)), refl)
-
-pub refuses-in-order : RefusesInOrder
-refuses-in-order check g f = refused-before check g f
+found-number : (check : Check) (g : Geometry) (f : Flash) (n p : ℕ) → found check g f ≡ refused n p → Listed MendNumber n p
+found-number check g f n p e = by (finds check g f) e
+  where
+    by : {r : Answer Mark} → Found check g f r → r ≡ refused n p → Listed MendNumber n p
+    by (looked M) q = first-17 (fitsMark check g f) (marks (firmware g)) n p q
+    by (before a c h) q = let z : c ≡ p = cc in listed MendNumber (asArm (h .number)) (cc) (sym z ∙ h .place)
 
 pub refuses-with : RefusesWith
-refuses-with check g f n p e = refuses check g f n p e
+unfolding mending
+refuses-with check g f n p e = by (found check g f) refl e
+  where
+    by : (r : Answer Mark) → found check g f ≡ r → withMark g f r .answer ≡ refused n p → MendNumber n × (p ≡ 0) × (withMark g f r .flash ≡ f)
+    by (gives j) h q = absurd (let z : _≡_ {A = ℕ} 0 1 = cc in omega arith)
+    by (refused a c) h q =
+        let z : a ≡ n = cc in
+        let y : c ≡ p = cc in
+        let l : Listed MendNumber n p = found-number check g f n p (h ∙ rw (z, y) refl) in
+        (l .number, l .place, refused-same g f a c)
 
 -- ---- what is touched
 

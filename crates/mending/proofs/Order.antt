@@ -1,6 +1,6 @@
 -- Marks: their flags, their order, and the first that fits.
 use mathlib.Core.Path.{_≡_, refl, sym, ap, _∙_, subst}
-use mathlib.Core.Logic.{_≢_, _⊎_, inl, inr}
+use mathlib.Core.Logic.{_≢_, inl, inr}
 use mathlib.Core.Bool.{Bool, true, false, cond}
 use mathlib.Core.List.{List, [], _∷_}
 use Prim.Native.Nat.{ℕ, zero, suc, _+_, _-_, _*_, _/_, _%_, _≤_, _<_}
@@ -14,15 +14,14 @@ use Rattle.flash.specs.Sectors.{sectorNumber}
 use Rattle.flash_flags.specs.declared.Flag.the-variants.{Untouched, Exchanged}
 use Rattle.flash_flags.specs.declared.Leg.{Leg}
 use Rattle.flash_flags.specs.declared.Leg.the-variants.{UpdateToSwap, BootToUpdate, SwapToBoot}
-use Rattle.flash_flags.specs.SectorFlags.{moved, legFlag, legMoves}
+use Rattle.flash_flags.specs.SectorFlags.{flagRank, moved, legFlag, legMoves}
 use Rattle.flash_flags.proofs.Moves.{leg-moved, leg-below, moved-none, moved-all}
 use Rattle.exchange.proofs.Whole.{legAfter, leg-after}
 use Rattle.mending.specs.declared.Mark.{Mark}
 use Rattle.mending.specs.declared.Mark.the-variants.{At, All0}
 use Rattle.mending.specs.Marks.{Among, flagUnder, movesOf, marksFrom, marks, sectorNamed, flagNamed}
 use Rattle.mending.specs.Mending.{firstFitting}
-use Rattle.exchange.specs.Demand.{flagRank}
-use Rattle.mending.specs.Mended.{MarksInOrder, NamesTell, NamesTellAll, Before, movesBehind, MovesOfFlags}
+use Rattle.mending.specs.Mended.{MarksInOrder, NamesTellAll, Before, movesBehind, MovesOfFlags}
 
 -- ---- flags and moves
 
@@ -156,6 +155,10 @@ leg-not-0 UpdateToSwap e = let z : _≡_ {A = ℕ} 0 1 = cc in omega arith
 leg-not-0 BootToUpdate e = let z : _≡_ {A = ℕ} 0 1 = cc in omega arith
 leg-not-0 SwapToBoot e = let z : _≡_ {A = ℕ} 0 1 = cc in omega arith
 
+-- all 0 is named the sector behind the last, and 0
+all-0-named : (m : ℕ) → (sectorNamed m All0 ≡ m) × (flagNamed All0 ≡ Exchanged)
+all-0-named m = (refl, refl)
+
 pub names-tell : NamesTellAll
 names-tell m (At j leg) h = record {
   before = λ i l. flag-before j leg i l;
@@ -167,17 +170,12 @@ names-tell m All0 h = record {
   before = λ i l. refl;
   there = λ l. absurd (omega arith);
   behind = λ i l q. absurd (omega arith);
-  none = λ l. (refl, refl);
+  none = λ l. all-0-named m;
 }
-
-rank-leg : (leg : Leg) → flagRank (legFlag leg) ≡ legMoves leg
-rank-leg UpdateToSwap = refl
-rank-leg BootToUpdate = refl
-rank-leg SwapToBoot = refl
 
 pub before-moves : (m : ℕ) (j k : Mark) → Among m j → Among m k → Before m j k → movesOf m j < movesOf m k
 before-moves m (At i leg) (At i′ leg′) h h′ (inl l) = omega (arith, leg-below leg, leg-below leg′)
-before-moves m (At i leg) (At i′ leg′) h h′ (inr (e, l)) = omega (arith, l, rank-leg leg, rank-leg leg′)
+before-moves m (At i leg) (At i′ leg′) h h′ (inr (e, l)) = omega (arith, l)
 before-moves m (At i leg) All0 h h′ b = omega (arith, leg-below leg)
 before-moves m All0 (At i leg) h h′ (inl l) = absurd (omega arith)
 before-moves m All0 (At i leg) h h′ (inr (e, l)) = absurd (omega arith)
@@ -200,7 +198,7 @@ behind-step k n = refl
 
 behind-past : (j : SectorNumber) (leg : Leg) (d n : ℕ) → n ≡ d + j .0 → movesBehind (At j leg) (suc n) ≡ 3 * j .0 + legMoves leg
 behind-past j leg zero n e =
-    omega (arith, behind-step (At j leg) n, behind-up j leg n (omega arith), ap flagRank (flag-there j leg n (omega arith)), rank-leg leg)
+    omega (arith, behind-step (At j leg) n, behind-up j leg n (omega arith), ap flagRank (flag-there j leg n (omega arith)))
 behind-past j leg (suc d) zero e = absurd (omega arith)
 behind-past j leg (suc d) (suc n) e =
     omega (arith, behind-step (At j leg) (suc n), behind-past j leg d n (omega arith), ap flagRank (flag-behind j leg (suc n) (omega arith)))

@@ -2,9 +2,9 @@
 use mathlib.Core.Path.{_≡_, sym, ap, _∙_, subst}
 use mathlib.Core.Bool.{true}
 use mathlib.Core.List.{List}
-use Prim.Native.Nat.{ℕ, _-_, _*_, _<_}
+use Prim.Native.Nat.{ℕ, _+_, _-_, _*_, _≤_, _<_}
 use native.Mathlib.Omega.{arith}
-use Rattle.numbers.specs.Answer.{Answer, gives}
+use Rattle.numbers.specs.Answer.{Answer, gives, noReason}
 use Rattle.flash.specs.declared.Geometry.{Geometry}
 use Rattle.flash.specs.Sizes.{firmware}
 use Rattle.flash.specs.Buffers.{Flash, flash, Shaped, fits}
@@ -21,14 +21,19 @@ use Rattle.flash_flags.specs.SectorFlags.{moved, flagsAt}
 use Rattle.exchange.specs.declared.Area.the-variants.{Update}
 use Rattle.exchange.specs.Operations.{get, oldBootIn, oldUpdateIn}
 use Rattle.exchange.specs.Decision.{Check}
-use Rattle.exchange.specs.PowerUp.{powerUp}
-use Rattle.exchange.specs.Demand.{update, Underway, from-new, from-success, StatusesAt, inLegs, atClose, Ongoing, ReadsFirmware, left, flashAfter}
+use Rattle.exchange.specs.Order.{Run, run}
+use Rattle.exchange.specs.PowerUp.{PowerUp, powerUp}
+use Rattle.exchange.specs.Demand.{update, jobOf, Underway, from-new, from-success, StatusesAt, inLegs, atClose, Starts, Ongoing, ReadsFirmware, left, flashAfter}
 use Rattle.exchange.specs.RuledOut.{Newer}
 use Rattle.flash.proofs.Checked.{shaped-of, shaped-fits}
 use Rattle.flash_flags.proofs.Shown.{each-F}
 use Rattle.exchange.proofs.Orders.{decide-by-reads}
 use Rattle.exchange.proofs.Accepted.{Accepted, accepted, begun}
-use Rattle.exchange.proofs.Whole.{same-flag, demand-3-ongoing, demand-3}
+use Rattle.exchange.proofs.Runs.{power-up-works}
+use Rattle.exchange.proofs.Stage.{erase-boot, write-testing, erase-update, closingLeft, closing, Stage, in-leg, at-last, at-end}
+use Rattle.exchange.proofs.Walked.{walked}
+use Rattle.exchange.proofs.Decided.{Decides}
+use Rattle.exchange.proofs.Whole.{same-flag, Begins, begins, starts-ongoing, demand-3-ongoing, demand-3}
 use Rattle.exchange.proofs.Reached.{stages-reached}
 use Rattle.mending.specs.declared.Mark.{Mark}
 use Rattle.mending.specs.Marks.{Among, flagUnder, movesOf, marks}
@@ -127,7 +132,7 @@ ongoing-may check g old f a o h = by (o .boot) (o .update) (o .statuses) (o .rea
     by b u (inLegs from-success) e₁ e₂ = record { fit = o .fit; boot = b; statuses = from-success; readBoot = e₁; readUpdate = e₂ }
     by b u (atClose e) e₁ e₂ = absurd (h e₁ e)
 
-not-testing : {b : BootStatus} → Underway update b Updating → (r : Answer BootStatus) → r ≡ gives b → r ≡ gives Testing → ⊥
+not-testing : {b : BootStatus} {u : UpdateStatus} → Underway update b u → (r : Answer BootStatus) → r ≡ gives b → r ≡ gives Testing → ⊥
 not-testing from-new r e t = let z : _≡_ {A = ℕ} 0 1 = cc in omega arith
 not-testing from-success r e t = let z : _≡_ {A = ℕ} 0 1 = cc in omega arith
 
@@ -187,11 +192,44 @@ spoiled-mends check g f₀ es b f R s h n U e E =
     ongoing-mends check g f₀ (flashAfter (left check) f₀ es) f (y .0) R (shaped-of g f₀ (A .fit)) (A .both .images) (y .2)
     (λ t q. not-testing U (bootStatusAt g (flashAfter (left check) f₀ es .boot)) e t) E
 
+-- an update has two operations or more to close it
+closing-two : {b : BootStatus} {u : UpdateStatus} (B : Underway update b u) → 2 ≤ closingLeft (closing B)
+closing-two from-new = omega arith
+closing-two from-success = omega arith
+
+-- none of them is among the first 9m, so BOOT is not yet TESTING
+not-closing : (check : Check) (g : Geometry) (f₀ : Flash) (a : ℕ) → Starts check update g f₀ → a ≤ 3 * firmware g
+    → bootStatusAt g (powerUp check g f₀ (3 * a) .flash .boot) ≡ gives Testing → ⊥
+not-closing check g f₀ a s h =
+    subst (λ (y : PowerUp). bootStatusAt g (y .flash .boot) ≡ gives Testing → ⊥) (sym (power-up-works check g f₀ (3 * a) (jobOf update) noReason (s .decided)))
+    (from (A .both .statuses) (begins check g f₀ f₀ 0 (A .both .statuses) (A .fit) (A .both .readBoot) (A .both .readUpdate) (o .stands) (o .decided)))
+  where
+    A : Accepted check update g f₀
+    A = accepted check update g f₀ s
+
+    o : Ongoing check update g f₀ f₀ 0
+    o = starts-ongoing check update g f₀ s
+
+    by : {b₀ : BootStatus} {u₀ : UpdateStatus} (B : Underway update b₀ u₀) (f : Flash) (p r : ℕ)
+        → r + 3 * a ≡ 9 * firmware g + closingLeft (closing B) → Stage (Decides check g B) g f₀ B f p r → bootStatusAt g (f .boot) ≡ gives Testing → ⊥
+    by B f p r e (in-leg i leg hi hp y d e₁ e₂ ready n) = not-testing B (bootStatusAt g (f .boot)) e₁
+    by B f p r e (at-last b u erase-boot le y e₁ e₂ n z) = not-testing from-success (bootStatusAt g (f .boot)) e₁
+    by B f p r e (at-last b u write-testing le y e₁ e₂ n z) = not-testing from-new (bootStatusAt g (f .boot)) e₁
+    by B f p r e (at-last b u erase-update le y e₁ e₂ n z) = absurd (omega (arith, closing-two B))
+    by B f p r e (at-end b u c y k e₁ e₂ n z) = absurd (omega (arith, closing-two B))
+
+    from : {b : BootStatus} {u : UpdateStatus} (B : Underway update b u) → Begins check g f₀ B f₀ 0
+        → bootStatusAt g ((run (jobOf update) g (3 * a) 0 f₀) .flash .boot) ≡ gives Testing → ⊥
+    from B b =
+        let w : Run = run (jobOf update) g (3 * a) 0 f₀ in
+        let v = walked g ((shaped-of g f₀ (A .fit)) .limits) f₀ B (3 * a) f₀ 0 (b .left) (b .stage) in
+        by B (w .flash) (w .phase) (b .left - w .count) (omega (arith, b .counted, v .counted)) (v .stage)
+
 pub stages-mend : StagesMend
 stages-mend check g f₀ a f R s h E =
     let A : Accepted check update g f₀ = accepted check update g f₀ s in
-    ongoing-mends check g f₀ (powerUp check g f₀ (3 * a) .flash) f a R (shaped-of g f₀ (A .fit)) (A .both .images) (stages-reached check update g f₀ s a (omega arith))
-    (λ t q. omega arith) E
+    ongoing-mends check g f₀ (powerUp check g f₀ (3 * a) .flash) f a R (shaped-of g f₀ (A .fit)) (A .both .images) (stages-reached check update g f₀ s a h)
+    (λ t q. not-closing check g f₀ a s h t) E
 
 pub mends-once : MendsOnce
 mends-once check g f k n R e =

@@ -6,7 +6,6 @@ use lib.Dec.{ltb, eqb}
 use Rattle.flash.specs.Sectors.{sectorNumber}
 use Rattle.flash_flags.specs.declared.Flag.{Flag}
 use Rattle.flash_flags.specs.declared.Flag.the-variants.{Untouched, Exchanged}
-use Rattle.flash_flags.specs.declared.Leg.{Leg}
 use Rattle.flash_flags.specs.declared.Leg.the-variants.{UpdateToSwap, BootToUpdate, SwapToBoot}
 use Rattle.flash_flags.specs.SectorFlags.{legFlag, legMoves}
 use Rattle.mending.specs.declared.Mark.{Mark}

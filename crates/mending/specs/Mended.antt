@@ -16,17 +16,17 @@ use Rattle.flash_status.specs.declared.UpdateStatus.the-variants.{Updating}
 use Rattle.flash_status.specs.StatusBytes.{bootStatusAt, updateStatusAt}
 use Rattle.flash_flags.specs.declared.Flag.the-variants.{Untouched, Exchanged}
 use Rattle.flash_flags.specs.declared.FlagRead.the-variants.{Known}
-use Rattle.flash_flags.specs.declared.Leg.{Leg}
 use Rattle.flash_flags.specs.declared.Leg.the-variants.{UpdateToSwap}
-use Rattle.flash_flags.specs.SectorFlags.{flagByte, half, flagAt}
+use Rattle.flash_flags.specs.SectorFlags.{flagRank, flagByte, half, flagAt}
 use Rattle.exchange.specs.declared.Area.the-variants.{Boot, Update}
 use Rattle.exchange.specs.Operations.{get, oldBootIn, oldUpdateIn}
 use Rattle.exchange.specs.Decision.{Check}
 use Rattle.exchange.specs.PowerUp.{powerUp}
-use Rattle.exchange.specs.Demand.{flagRank, update, Underway, Finished, Starts, Ongoing, ReadsFirmware, Event, Allowed, left, flashAfter, Safe}
+use Rattle.exchange.specs.Demand.{update, Underway, Finished, Starts, Ongoing, ReadsFirmware, Event, Allowed, left, flashAfter, Safe}
 use Rattle.exchange.specs.RuledOut.{StatusBad}
+use Rattle.exchange.specs.CommandsRuledOut.{ArmNumber}
 use Rattle.mending.specs.declared.Mark.{Mark}
-use Rattle.mending.specs.declared.Mark.the-variants.{At, All0}
+use Rattle.mending.specs.declared.Mark.the-variants.{At}
 use Rattle.mending.specs.Marks.{Among, flagUnder, movesOf, marks, sectorNamed, flagNamed}
 use Rattle.mending.specs.OldImages.{oldFlash, Fits}
 use Rattle.mending.specs.Mending.{differs, Given, given, mending}
@@ -111,26 +111,25 @@ SeventeenIfNone = (check : Check) (g : Geometry) (f : Flash) → (mending check 
 
 -- The other refusals, in their order, whatever the marks are: 1 for lengths outside the rules; then 10 for a status byte that is not
 -- allowed there; then 14 for another status pair.
-pub record RefusedBefore (check : Check) (g : Geometry) (f : Flash) : Type 0 where
+pub record MendRefusedFirst (check : Check) (g : Geometry) (f : Flash) : Type 0 where
   pub outside : fits g f ≡ false → mending check g f .answer ≡ refused 1 0
   pub status : fits g f ≡ true → StatusBad g f → mending check g f .answer ≡ refused 10 0
   pub pair : fits g f ≡ true → (b : BootStatus) (u : UpdateStatus) → bootStatusAt g (f .boot) ≡ gives b → updateStatusAt g (f .update) ≡ gives u
       → ¬ Underway update b u → mending check g f .answer ≡ refused 14 0
 
 abbrev pub RefusesInOrder : Type 0
-RefusesInOrder = (check : Check) (g : Geometry) (f : Flash) → RefusedBefore check g f
+RefusesInOrder = (check : Check) (g : Geometry) (f : Flash) → MendRefusedFirst check g f
 
--- The numbers that mending gives, at no place. 11 is none of them.
-pub data MendNumber : ℕ → ℕ → Type 0 where
-  outsideRules : MendNumber 1 0
-  statusNotAllowed : MendNumber 10 0
-  wrongTime : MendNumber 14 0
-  noMarkFits : MendNumber 17 0
+-- The numbers that mending gives: those of arm, which are 1, 10 and 14, and 17. The flags are not looked at, so 11 is none of them.
+pub data MendNumber : ℕ → Type 0 where
+  asArm : {n : ℕ} → ArmNumber n → MendNumber n
+  noMarkFits : MendNumber 17
 
--- A refusal has one of these numbers, and changes nothing.
+-- A refusal has one of these numbers and place 0, and changes nothing.
 abbrev pub RefusesWith : Type 0
 RefusesWith =
-    (check : Check) (g : Geometry) (f : Flash) (n p : ℕ) → mending check g f .answer ≡ refused n p → MendNumber n p × (mending check g f .flash ≡ f)
+    (check : Check) (g : Geometry) (f : Flash) (n p : ℕ) → mending check g f .answer ≡ refused n p
+    → MendNumber n × (p ≡ 0) × (mending check g f .flash ≡ f)
 
 -- ---- what is touched
 
@@ -223,8 +222,8 @@ SpoiledMends =
     → bootStatusAt g (flashAfter (left check) f₀ es .boot) ≡ gives b → ButFlags g (flashAfter (left check) f₀ es) f
     → GivesMark check g (flashAfter (left check) f₀ es) f
 
--- So it does at every stage of the legs: from every start, after 3 a operations, which make a moves.
+-- So it does at every stage of the legs, up to all flags 0: from every start, after 3 a operations, which make a moves.
 abbrev pub StagesMend : Type 0
 StagesMend =
-    (check : Check) (g : Geometry) (f₀ : Flash) (a : ℕ) (f : Flash) → ReadsFirmware check g → Starts check update g f₀ → a < 3 * firmware g
+    (check : Check) (g : Geometry) (f₀ : Flash) (a : ℕ) (f : Flash) → ReadsFirmware check g → Starts check update g f₀ → a ≤ 3 * firmware g
     → ButFlags g (powerUp check g f₀ (3 * a) .flash) f → GivesMark check g (powerUp check g f₀ (3 * a) .flash) f

@@ -41,11 +41,11 @@ joined s (suc n) = joined s n ++ s n
 unfoldable pub oldPartition : Geometry → OldImage → Mark → Flash → List ℕ
 oldPartition g image k f = joined (oldSector g image k f) (firmware g) ++ get g (ownArea image) (firmware g) f
 
--- The flash as the mark shows that it was before the update; SWAP, which held nothing then, as it is.
+-- BOOT's and UPDATE's firmware sectors are as the mark shows them; the trailer sectors and SWAP are today's, and no claim reads them.
 abbrev pub oldFlash : Geometry → Mark → Flash → Flash
 oldFlash g k f = flash (oldPartition g BootImage k f) (oldPartition g UpdateImage k f) (f .swap)
 
--- "A mark fits if the two old images both check and the UPDATE version is greater."
+-- "A mark fits if the two old images, at the places the table gives for it, both check and the UPDATE version is greater."
 abbrev pub Fits : Check → Geometry → Flash → Mark → Type 0
 Fits check g f k = Newer (check g (oldPartition g UpdateImage k f)) (check g (oldPartition g BootImage k f))
 

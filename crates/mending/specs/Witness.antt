@@ -1,4 +1,4 @@
--- The claims speak of something: an update under way with a lost flag byte, its mending computed, and a refusal 17.
+-- The claims speak of something: the marks of two sectors, an update under way with a lost flag byte, its mending computed, and a refusal 17.
 use mathlib.Core.Path.{_≡_}
 use mathlib.Core.Bool.{cond}
 use lib.Dec.{eqb}
@@ -10,7 +10,7 @@ use Rattle.flash.specs.declared.Geometry.{Geometry}
 use Rattle.flash.specs.Sizes.{geometry}
 use Rattle.flash.specs.Sectors.{sectorNumber}
 use Rattle.flash.specs.Buffers.{Flash, flash}
-use Rattle.flash_flags.specs.declared.Leg.the-variants.{BootToUpdate, SwapToBoot}
+use Rattle.flash_flags.specs.declared.Leg.the-variants.{UpdateToSwap, BootToUpdate, SwapToBoot}
 use Rattle.exchange.specs.declared.Area.the-variants.{Update}
 use Rattle.exchange.specs.Cases.{three}
 use Rattle.exchange.specs.Operations.{get}
@@ -18,6 +18,7 @@ use Rattle.exchange.specs.Decision.{Check}
 use Rattle.exchange.specs.PowerUp.{powerUp}
 use Rattle.exchange.specs.Demand.{update, Starts, ReadsFirmware}
 use Rattle.mending.specs.declared.Mark.the-variants.{At, All0}
+use Rattle.mending.specs.Marks.{marks}
 use Rattle.mending.specs.OldImages.{oldFlash}
 use Rattle.mending.specs.Mending.{given, mending}
 
@@ -63,16 +64,20 @@ closing flags = flash (replicate 256 8 ++ replicate 256 0xFF) (replicate 256 7 +
 pub record Witness : Type 0 where
   pub reads : ReadsFirmware firstByte three
   pub starts : Starts firstByte update three armed
+  -- the marks of two firmware sectors, in their order
+  pub order : marks 2
+      ≡ At (sectorNumber 0) UpdateToSwap ∷ At (sectorNumber 0) BootToUpdate ∷ At (sectorNumber 0) SwapToBoot ∷ At (sectorNumber 1) UpdateToSwap
+      ∷ At (sectorNumber 1) BootToUpdate ∷ At (sectorNumber 1) SwapToBoot ∷ All0 ∷ []
+  -- equal versions fit no mark
+  pub none : mending firstByte three notNewer .answer ≡ refused 17 0
+  -- nor does a bad BOOT, at F or at 7
+  pub bad : mending firstByte three overBad .answer ≡ refused 17 0
   -- where the update stands after six and after fifteen operations
   pub six : powerUp firstByte three armed 6 .flash ≡ early 0xF3
   pub fifteen : powerUp firstByte three armed 15 .flash ≡ late 0x30
   -- the flag byte holds 5A: the first mark that fits is sector 0 at 7, one move before the leg that was lost; one byte differs
   pub mends : mending firstByte three (early 0x5A) .answer ≡ gives (given (At (sectorNumber 0) BootToUpdate) 1)
   pub leaves : mending firstByte three (early 0x5A) .flash ≡ early 0xF7
-  -- equal versions fit no mark
-  pub none : mending firstByte three notNewer .answer ≡ refused 17 0
-  -- nor does a bad BOOT, at F or at 7
-  pub bad : mending firstByte three overBad .answer ≡ refused 17 0
   -- one firmware sector: the first mark that fits is all 0, the byte's low half is written, its unused high half stays
   pub lastMark : mending firstByte two (closing 0x5A) .answer ≡ gives (given All0 1)
   pub lastLeaves : mending firstByte two (closing 0x5A) .flash ≡ closing 0x50
