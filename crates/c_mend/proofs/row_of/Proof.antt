@@ -1,4 +1,4 @@
-use mathlib.Core.Path.{_≡_, ap, ap₂, _∙_}
+use mathlib.Core.Path.{_≡_, refl, ap, ap₂, _∙_}
 use mathlib.Core.List.{[], _∷_}
 use Prim.Native.Nat.{ℕ, _-_}
 use Rattle.mending.specs.Marks.{sectorNamed}
@@ -13,5 +13,8 @@ returns c =
     c .before .sector-of .ensures ∙ ap (λ (m : ℕ). sectorNamed m (given .0 .0)) (c .before .before .firmware-sectors .ensures) in
     rw (given .1) (ap₂ (λ (x y : ℕ). x ∷ y ∷ given .0 .1 .0 ∷ []) s (c .flag-of .ensures))
 
+returns-2 : tie.Need-returns-2
+returns-2 c = rw (c .enum-told .given .1) refl
+
 pub row-of-spec : {M : Type 1} → statement M
-row-of-spec = tie.close (tie.spec (λ c. search needs) (λ c κs. search needs) (λ c κs. search needs) (λ c κs. search needs) (λ c. search needs) returns (λ c. search needs))
+row-of-spec = tie.close (tie.spec (λ c. search needs) (λ c κs. search needs) (λ c κs. search needs) (λ c κs. search needs) (λ c. search needs) returns returns-2)
