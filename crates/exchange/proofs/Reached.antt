@@ -30,15 +30,17 @@ use Rattle.exchange.proofs.Decided.{Decides, decided}
 use Rattle.exchange.proofs.Played.{OldRuns, old-runs, works, next-in, Played, played}
 use Rattle.exchange.proofs.Whole.{closing-most, Again, again, Begins, begins, starts-ongoing}
 
-no-sectors : (check : Check) (f : Flash) (budget : ℕ) → powerUp check (geometry 0 0) f budget ≡ idle (refusal (numbered 1 0)) f
+-- a geometry of no sectors is refused
+pub no-sectors : (check : Check) (f : Flash) (budget : ℕ) → powerUp check (geometry 0 0) f budget ≡ idle (refusal (numbered 1 0)) f
 unfolding powerUp decide fits partitionFits withinLimits
 no-sectors check f budget = refl
 
 module _ (check : Check) (g : Geometry) (G : Limits g) (old : Flash) {x : Exchange} {b₀ : BootStatus} {u₀ : UpdateStatus} (B : Underway x b₀ u₀)
     (I : OldRuns check g old) where
-  record Ends (f : Flash) (es : List Event) : Type 0 where
-    allowed : Allowed check x g f es
-    finished : Finished x g (flashAfter (left check) f es)
+  -- a list that 01 allows, and that comes to the finish
+  pub record Ends (f : Flash) (es : List Event) : Type 0 where
+    pub allowed : Allowed check x g f es
+    pub finished : Finished x g (flashAfter (left check) f es)
 
   -- with budget enough a power-up finishes
   finishes : (f : Flash) (r budget : ℕ) → Stage (Decides check g B) g old B f 0 (suc r) → suc r ≤ budget → Finished x g ((powerUp check g f budget) .flash)
@@ -50,7 +52,7 @@ module _ (check : Check) (g : Geometry) (G : Limits g) (old : Flash) {x : Exchan
           let e : suc r - w .count ≡ 0 = omega (arith, v .counted) in
           end-of g old B (w .flash) (w .phase) (subst (λ (n : ℕ). Stage (Decides check g B) g old B (w .flash) (w .phase) n) e (v .stage))
 
-  last : (f : Flash) (r budget : ℕ) → Stage (Decides check g B) g old B f 0 r → ¬ Finished x g f → r ≤ budget → Ends f (untorn g budget ∷ [])
+  pub last : (f : Flash) (r budget : ℕ) → Stage (Decides check g B) g old B f 0 r → ¬ Finished x g f → r ≤ budget → Ends f (untorn g budget ∷ [])
   unfolding left
   last f zero budget s n h = absurd (n (end-of g old B f 0 s))
   last f (suc r) budget s n h = record { allowed = ((n, tt), tt); finished = finishes f r budget s h }
