@@ -25,7 +25,8 @@ use Rattle.mending.specs.declared.Mark.{Mark}
 use Rattle.mending.specs.Marks.{marks}
 use Rattle.mending.specs.OldImages.{fitsMark}
 use Rattle.mending.specs.Mending.{firstFitting, mayMend, found, Given, given, Mend, withMark, mending}
-use Rattle.mending.specs.Mended.{MayMend, RefusedBefore, MendNumber, outsideRules, statusNotAllowed, wrongTime, noMarkFits}
+use Rattle.exchange.specs.CommandsRuledOut.{outsideRules, statusNotAllowed, wrongTime}
+use Rattle.mending.specs.Mended.{MayMend, MendRefusedFirst, MendNumber, asArm, noMarkFits}
 use Rattle.mending.proofs.Found.{found-by, mend-by, gives-first, gives-if-fits, seventeen-if-none, refuses-in-order, refuses-with, writes-flags, counts-bytes}
 use Rattle.mend.specs.declared.MendAnswer.{MendAnswer}
 use Rattle.mend.specs.declared.MendAnswer.the-variants.{Mended, Refused}
@@ -51,11 +52,11 @@ code-of (Refused StatusNotAllowed) = refl
 code-of (Refused WrongTime) = refl
 code-of (Refused NoMarkFits) = refl
 
-number-coded : {n p : ℕ} → MendNumber n p → mendOf (coded (refused n p)) ≡ refused n p
-number-coded outsideRules = refl
-number-coded statusNotAllowed = refl
-number-coded wrongTime = refl
-number-coded noMarkFits = refl
+number-coded : {n : ℕ} (p : ℕ) → MendNumber n → p ≡ 0 → mendOf (coded (refused n p)) ≡ refused n p
+number-coded p (asArm outsideRules) e = ap (refused 1) (sym e)
+number-coded p (asArm statusNotAllowed) e = ap (refused 10) (sym e)
+number-coded p (asArm wrongTime) e = ap (refused 14) (sym e)
+number-coded p noMarkFits e = ap (refused 17) (sym e)
 
 -- ---- one call
 
@@ -143,7 +144,7 @@ module _ (check : Check) (g : Geometry) (f : Flash) where
           let i : a ≡ n = cc in
           sym i ∙ first-17 (fitsMark check g f) (marks (firmware g)) a c q
 
-  R : RefusedBefore check g f
+  R : MendRefusedFirst check g f
   R = refuses-in-order check g f
 
   -- the number of the answer, by what decides
@@ -198,7 +199,7 @@ as-asked n s f answer u d = record {
     λ h. told (Refused NoMarkFits) (seventeen-if-none checkOf (geometry n s) f .1 h),
   );
   unchanged = λ r e.
-      ap (λ (y : Flash). y .update) (flash-is n s f answer u d ∙ refuses-with checkOf (geometry n s) f (mendNumber r) 0 (says (Refused r) e) .1);
+      ap (λ (y : Flash). y .update) (flash-is n s f answer u d ∙ refuses-with checkOf (geometry n s) f (mendNumber r) 0 (says (Refused r) e) .2);
 }
   where
     says : (a : MendAnswer) → answer ≡ a → mending checkOf (geometry n s) f .answer ≡ mendOf a
@@ -225,7 +226,7 @@ has-code check g f = by (found check g f) refl
     by (gives k) e = refl
     by (refused n p) e =
         ap (λ (a : Answer Given). record { answer = a; flash = f })
-        (number-coded (refuses-with check g f n p (ap (λ (z : Mend). z .answer) (mend-by check g f (refused n p) e)) .0))
+        (let w = refuses-with check g f n p (ap (λ (z : Mend). z .answer) (mend-by check g f (refused n p) e)) in number-coded p (w .0) (w .1))
 
 pub every-mend-called : EveryMendCalled
 every-mend-called n s f = record {
