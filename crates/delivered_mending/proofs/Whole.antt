@@ -14,18 +14,20 @@ use Rattle.image.specs.Verdict.{checkOf}
 use Rattle.mending.specs.declared.Mark.{Mark}
 use Rattle.mending.specs.Marks.{movesOf}
 use Rattle.mending.specs.OldImages.{oldFlash}
-use Rattle.mending.specs.Mended.{MayMend, ButFlags, ReadAs, GivesMark}
-use Rattle.mending.proofs.Found.{but-status, may-shaped}
-use Rattle.mending.proofs.Whole.{mended-under-way, spoiled-mends}
+use Rattle.mending.specs.Mending.{given, Mend, mending}
+use Rattle.mending.specs.Mended.{MayMend, ButFlags, markOf, ReadAs, GivesMark}
+use Rattle.mending.proofs.Found.{but-status, may-shaped, flags-not-read}
+use Rattle.mending.proofs.Whole.{mended-under-way, mends-once, spoiled-mends}
+use Rattle.mend.specs.declared.MendAnswer.{MendAnswer}
 use Rattle.mend.specs.declared.MendAnswer.the-variants.{Mended}
 use Rattle.mend.specs.Delivered.{MendDelivers}
 use Rattle.delivered.specs.Demand.{CallEvent, Happens, seen, AllowedCalls}
 use Rattle.delivered.specs.Witness.{ruled}
 use Rattle.delivered.proofs.Delivered.{reads-firmware, as-ruled, at, demand-3-ongoing-delivered}
-use Rattle.delivered_mending.specs.Asked.{leftBy}
+use Rattle.delivered_mending.specs.Asked.{leftBy, FlagsHaveNoSay, MendedOnce}
 use Rattle.delivered_mending.specs.Demand.{Demand3Mended}
 use Rattle.delivered_mending.specs.Spoiled.{GaveMark, SpoiledCallMends}
-use Rattle.delivered_mending.proofs.Asked.{flash-is, ruled-answer, coded-answer}
+use Rattle.delivered_mending.proofs.Asked.{answer-is, flash-is, ruled-answer, coded-answer}
 
 -- ---- demand 3 from the mended state
 
@@ -41,6 +43,23 @@ pub demand-3-mended : Demand3Mended
 demand-3-mended n s f k bytes u d es h =
     demand-3-ongoing-delivered update (geometry n s) (oldFlash (geometry n s) k f) (leftBy f u) (movesOf (firmware (geometry n s)) k)
     (call-under-way n s f k bytes u d) es h
+
+-- ---- flag bytes, and flags that are mended
+
+pub flags-have-no-say : FlagsHaveNoSay
+flags-have-no-say n s f f′ E a a′ u u′ d d′ =
+    ap markOf (answer-is n s f′ a′ u′ d′) ∙ flags-not-read checkOf (geometry n s) f f′ (reads-firmware (geometry n s)) E
+    ∙ sym (ap markOf (answer-is n s f a u d))
+
+pub mended-once : MendedOnce
+mended-once n s f k bytes u d a u′ d′ =
+    let e : leftBy f u ≡ mending checkOf (geometry n s) f .flash = flash-is n s f (Mended k bytes) u d in
+    let q : mending checkOf (geometry n s) (leftBy f u) ≡ record { answer = gives (given k 0); flash = leftBy f u } =
+    subst (λ (y : Flash). mending checkOf (geometry n s) y ≡ record { answer = gives (given k 0); flash = y }) (sym e)
+    (mends-once checkOf (geometry n s) f k bytes (reads-firmware (geometry n s)) (ruled-answer n s f (Mended k bytes) u d (Mended k bytes) refl)) in (
+      coded-answer n s (leftBy f u) a u′ d′ (Mended k 0) (ap (λ (r : Mend). r .answer) q),
+      ap (λ (y : Flash). y .update) (flash-is n s (leftBy f u) a u′ d′ ∙ ap (λ (r : Mend). r .flash) q),
+    )
 
 -- ---- lost flags
 

@@ -20,10 +20,10 @@ use Rattle.image.specs.Verdict.{checkOf}
 use Rattle.mending.specs.declared.Mark.{Mark}
 use Rattle.mending.specs.Marks.{Among}
 use Rattle.mending.specs.OldImages.{Fits}
-use Rattle.mending.specs.Mended.{MayMend, FirstToFit, NoneFits, OnlyFlags, bytesDiffering}
+use Rattle.mending.specs.Mended.{MayMend, FirstToFit, NoneFits, OnlyFlags, bytesDiffering, ButFlags, markOf}
 use Rattle.mend.specs.declared.MendAnswer.{MendAnswer}
 use Rattle.mend.specs.declared.MendAnswer.the-variants.{Mended, Refused}
-use Rattle.mend.specs.Delivered.{MendDelivers}
+use Rattle.mend.specs.Delivered.{mendOf, MendDelivers}
 
 -- The flash after a call that was lent f and left UPDATE's bytes u: BOOT and SWAP are lent for reading.
 abbrev pub leftBy : Flash → List ℕ → Flash
@@ -69,3 +69,15 @@ pub record MendsAsAsked (g : Geometry) (f : Flash) (answer : MendAnswer) (u : Li
 abbrev pub EveryCallAsAsked : Type 0
 EveryCallAsAsked =
     (n s : ℕ) (f : Flash) (answer : MendAnswer) (u : List ℕ) → MendDelivers n s f answer u → MendsAsAsked (geometry n s) f answer u
+
+-- The flags are not looked at: two calls on flashes that differ in their flag bytes alone give the same mark, or the same refusal.
+abbrev pub FlagsHaveNoSay : Type 0
+FlagsHaveNoSay =
+    (n s : ℕ) (f f′ : Flash) → ButFlags (geometry n s) f f′ → (a a′ : MendAnswer) (u u′ : List ℕ) → MendDelivers n s f a u → MendDelivers n s f′ a′ u′
+    → markOf (mendOf a′) ≡ markOf (mendOf a)
+
+-- What one call has mended, another finds mended: the same mark, no byte that differs, none that changes.
+abbrev pub MendedOnce : Type 0
+MendedOnce =
+    (n s : ℕ) (f : Flash) (k : Mark) (bytes : ℕ) (u : List ℕ) → MendDelivers n s f (Mended k bytes) u → (a : MendAnswer) (u′ : List ℕ)
+    → MendDelivers n s (leftBy f u) a u′ → (a ≡ Mended k 0) × (u′ ≡ u)
