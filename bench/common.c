@@ -95,9 +95,16 @@ void make_image(uint8_t *partition, size_t length, size_t sector_size, uint32_t 
     fill(bytes, sizeof bytes, version);
     memset(partition, 0xFF, length);
     fill(partition + TAINHOSA_HEADER_LENGTH, firmware, version + 10);
-    plain_sha256(partition + TAINHOSA_HEADER_LENGTH, firmware, bytes + TAINHOSA_DIGEST_AT);
     if (tainhosa_write_header(partition, length, (uint32_t)firmware, version, 1700000000, 512, true, bytes, sizeof bytes, &place, 1) !=
         TAINHOSA_OK) {
         fail("tainhosa_write_header refused");
+    }
+    sign_image(partition, length - sector_size);
+}
+
+void sign_image(uint8_t *image, size_t room)
+{
+    if (!plain_sign_image(image, room)) {
+        fail("an image with a refused header gets no digest");
     }
 }

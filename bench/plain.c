@@ -74,44 +74,65 @@ static void compress(uint32_t hash[8], const uint8_t *block)
     hash[7] += h;
 }
 
-/* The whole blocks of these bytes: how many bytes that are. */
-static size_t compress_whole(uint32_t hash[8], const uint8_t *bytes, size_t len)
+/* A digest on its way: the hash value after the whole blocks, the bytes that are left, and how many came in all. */
+struct sha256 {
+    uint32_t hash[8];
+    uint8_t rest[64];
+    size_t len;
+};
+
+static void start(struct sha256 *s)
 {
-    size_t whole = len - len % 64;
-    for (size_t at = 0; at < whole; at += 64) {
-        compress(hash, bytes + at);
-    }
-    return whole;
+    memcpy(s->hash, H0, sizeof s->hash);
+    s->len = 0;
 }
 
-/* The digest of a message of this length, whose whole blocks are done and whose rest is given. */
-static void finish(uint32_t hash[8], const uint8_t *message_rest, size_t len, uint8_t digest[32])
+/* Takes in these bytes. Blocks that lie in them are compressed where they lie. */
+static void take(struct sha256 *s, const uint8_t *bytes, size_t len)
 {
-    uint8_t last[128] = {0};
-    size_t rest = len % 64;
-    if (rest > 0) {
-        memcpy(last, message_rest, rest);
+    const size_t fill = s->len % 64;
+    size_t at = 0;
+    s->len += len;
+    if (fill > 0) {
+        at = len < 64 - fill ? len : 64 - fill;
+        memcpy(s->rest + fill, bytes, at);
+        if (fill + at < 64) {
+            return;
+        }
+        compress(s->hash, s->rest);
     }
-    last[rest] = 0x80;
-    size_t end = rest < 56 ? 64 : 128;
-    uint64_t bits = (uint64_t)len * 8;
+    for (; len - at >= 64; at += 64) {
+        compress(s->hash, bytes + at);
+    }
+    memcpy(s->rest, bytes + at, len - at);
+}
+
+static void finish(struct sha256 *s, uint8_t digest[32])
+{
+    const uint64_t bits = (uint64_t)s->len * 8;
+    size_t fill = s->len % 64;
+    s->rest[fill++] = 0x80;
+    if (fill > 56) {
+        memset(s->rest + fill, 0, 64 - fill);
+        compress(s->hash, s->rest);
+        fill = 0;
+    }
+    memset(s->rest + fill, 0, 56 - fill);
     for (int i = 0; i < 8; i++) {
-        last[end - 8 + i] = (uint8_t)(bits >> (56 - 8 * i));
+        s->rest[56 + i] = (uint8_t)(bits >> (56 - 8 * i));
     }
-    for (size_t at = 0; at < end; at += 64) {
-        compress(hash, last + at);
-    }
+    compress(s->hash, s->rest);
     for (int i = 0; i < 32; i++) {
-        digest[i] = (uint8_t)(hash[i / 4] >> (24 - 8 * (i % 4)));
+        digest[i] = (uint8_t)(s->hash[i / 4] >> (24 - 8 * (i % 4)));
     }
 }
 
 void plain_sha256(const uint8_t *message, size_t len, uint8_t digest[32])
 {
-    uint32_t hash[8];
-    memcpy(hash, H0, sizeof hash);
-    size_t whole = compress_whole(hash, message, len);
-    finish(hash, message + whole, len, digest);
+    struct sha256 s;
+    start(&s);
+    take(&s, message, len);
+    finish(&s, digest);
 }
 
 /* ---- The header */
@@ -162,12 +183,12 @@ static uint32_t refuse(uint64_t numbers[6], uint32_t answer, size_t place)
     return answer;
 }
 
-uint32_t plain_read_header(const uint8_t *input, size_t len, uint64_t numbers[6], uint8_t bytes[128])
+/* Where the values of the tags stand, or a refusal. */
+static inline uint32_t find_values(const uint8_t *input, size_t len, uint64_t numbers[6], const uint8_t *value[ROWS])
 {
-    const uint8_t *value[ROWS] = {0};
     size_t p = TAINHOSA_FIRST_TAG;
     memset(numbers, 0, 6 * sizeof numbers[0]);
-    memset(bytes, 0, 128);
+    memset(value, 0, ROWS * sizeof value[0]);
     if (len < TAINHOSA_HEADER_LENGTH) {
         return TAINHOSA_SHORT_HEADER;
     }
@@ -216,6 +237,17 @@ uint32_t plain_read_header(const uint8_t *input, size_t len, uint64_t numbers[6]
             return refuse(numbers, TAINHOSA_TAG_MISSING, plain_types[row]);
         }
     }
+    return TAINHOSA_OK;
+}
+
+uint32_t plain_read_header(const uint8_t *input, size_t len, uint64_t numbers[6], uint8_t bytes[128])
+{
+    const uint8_t *value[ROWS];
+    memset(bytes, 0, 128);
+    const uint32_t answer = find_values(input, len, numbers, value);
+    if (answer != TAINHOSA_OK) {
+        return answer;
+    }
     numbers[TAINHOSA_HEADER_SIZE] = le32(input + TAINHOSA_FIRMWARE_SIZE_AT);
     numbers[TAINHOSA_HEADER_VERSION] = le32(value[VERSION]);
     numbers[TAINHOSA_HEADER_TIMESTAMP] = le64(value[TIMESTAMP]);
@@ -231,20 +263,64 @@ uint32_t plain_read_header(const uint8_t *input, size_t len, uint64_t numbers[6]
 
 /* ---- Image and flash */
 
-int plain_check_image(const uint8_t *partition, size_t room, uint32_t *version)
+/* What an image's header states: the firmware's size, the version, and the digest, as it stands there. */
+struct stated {
+    uint32_t size;
+    uint32_t version;
+    const uint8_t *digest;
+};
+
+/* A header that has `room` bytes with its firmware: 1 and what it states, or 0. */
+static int read_stated(const uint8_t *header, size_t room, struct stated *s)
 {
     uint64_t numbers[6];
-    uint8_t bytes[128];
+    const uint8_t *value[ROWS];
+    if (find_values(header, room, numbers, value) != TAINHOSA_OK) {
+        return 0;
+    }
+    s->size = le32(header + TAINHOSA_FIRMWARE_SIZE_AT);
+    s->version = le32(value[VERSION]);
+    s->digest = value[DIGEST];
+    return s->size <= room - TAINHOSA_HEADER_LENGTH;
+}
+
+/* The digest covers what the header has before the digest's tag, and then the firmware. */
+static void start_image(struct sha256 *s, const uint8_t *header, const struct stated *stated)
+{
+    start(s);
+    take(s, header, (size_t)(stated->digest - 4 - header));
+}
+
+static void digest_image(const uint8_t *image, const struct stated *stated, uint8_t digest[32])
+{
+    struct sha256 s;
+    start_image(&s, image, stated);
+    take(&s, image + TAINHOSA_HEADER_LENGTH, stated->size);
+    finish(&s, digest);
+}
+
+int plain_check_image(const uint8_t *partition, size_t room, uint32_t *version)
+{
+    struct stated stated;
     uint8_t digest[32];
-    if (plain_read_header(partition, room, numbers, bytes) != TAINHOSA_OK) {
+    if (!read_stated(partition, room, &stated)) {
         return 0;
     }
-    if (numbers[TAINHOSA_HEADER_SIZE] > room - TAINHOSA_HEADER_LENGTH) {
+    digest_image(partition, &stated, digest);
+    *version = stated.version;
+    return memcmp(digest, stated.digest, sizeof digest) == 0;
+}
+
+int plain_sign_image(uint8_t *image, size_t room)
+{
+    struct stated stated;
+    uint8_t digest[32];
+    if (!read_stated(image, room, &stated)) {
         return 0;
     }
-    plain_sha256(partition + TAINHOSA_HEADER_LENGTH, numbers[TAINHOSA_HEADER_SIZE], digest);
-    *version = (uint32_t)numbers[TAINHOSA_HEADER_VERSION];
-    return memcmp(digest, bytes + TAINHOSA_DIGEST_AT, 32) == 0;
+    digest_image(image, &stated, digest);
+    memcpy(image + (stated.digest - image), digest, sizeof digest);
+    return 1;
 }
 
 void plain_erase(uint8_t *sector, size_t size)
@@ -259,55 +335,51 @@ void plain_copy(uint8_t *target, const uint8_t *source, size_t size)
 
 /* ---- Mending */
 
-/* An old image, as its header states it, and its digest so far: of the firmware in the sectors that it has gone over. */
+/* An old image, as its header states it, and its digest so far: of the sectors that it has gone over. */
 struct image {
-    uint32_t size;
-    uint32_t version;
-    uint8_t digest[32];
-    uint32_t hash[8];
-    const uint8_t *rest;
+    struct stated stated;
+    struct sha256 digest;
 };
 
-/* Reads the header in sector 0, which the digest has yet to go over. */
+/* Reads the header in sector 0, and begins the digest with it; the sector's firmware is yet to come. */
 static int begin(struct image *image, const uint8_t *sector, size_t room)
 {
-    uint64_t numbers[6];
-    uint8_t bytes[128];
-    if (plain_read_header(sector, TAINHOSA_HEADER_LENGTH, numbers, bytes) != TAINHOSA_OK ||
-        numbers[TAINHOSA_HEADER_SIZE] > room - TAINHOSA_HEADER_LENGTH) {
+    if (!read_stated(sector, room, &image->stated)) {
         return 0;
     }
-    image->size = (uint32_t)numbers[TAINHOSA_HEADER_SIZE];
-    image->version = (uint32_t)numbers[TAINHOSA_HEADER_VERSION];
-    memcpy(image->digest, bytes + TAINHOSA_DIGEST_AT, sizeof image->digest);
-    memcpy(image->hash, H0, sizeof image->hash);
-    image->rest = NULL;
+    start_image(&image->digest, sector, &image->stated);
     return 1;
 }
 
-/* Goes over the firmware of sector i, if there is any. A sector ends with a block, but for the firmware's last one. */
+/* Both, if both headers are read and the second one is newer. */
+static int begin_both(struct image *older, const uint8_t *older_at, struct image *newer, const uint8_t *newer_at, size_t room)
+{
+    return begin(older, older_at, room) && begin(newer, newer_at, room) && newer->stated.version > older->stated.version;
+}
+
+/* Goes over the firmware of sector i, if there is any. */
 static void go_over(struct image *image, const uint8_t *sector, size_t i, size_t size)
 {
-    const size_t end = TAINHOSA_HEADER_LENGTH + (size_t)image->size;
+    const size_t end = TAINHOSA_HEADER_LENGTH + (size_t)image->stated.size;
     const size_t from = i == 0 ? TAINHOSA_HEADER_LENGTH : 0;
     if (end > i * size + from) {
         const size_t to = end < (i + 1) * size ? end - i * size : size;
-        image->rest = sector + from + compress_whole(image->hash, sector + from, to - from);
+        take(&image->digest, sector + from, to - from);
     }
 }
 
 /* Whether the digest is the header's if sector i stands here, and those behind it in this partition. */
 static int is_good(const struct image *image, const uint8_t *here, const uint8_t *behind, size_t i, size_t size)
 {
-    const size_t end = TAINHOSA_HEADER_LENGTH + (size_t)image->size;
+    const size_t end = TAINHOSA_HEADER_LENGTH + (size_t)image->stated.size;
     struct image whole = *image;
     uint8_t digest[32];
     go_over(&whole, here, i, size);
     for (size_t j = i + 1; j * size < end; j++) {
         go_over(&whole, behind + j * size, j, size);
     }
-    finish(whole.hash, whole.rest, whole.size, digest);
-    return memcmp(digest, whole.digest, sizeof digest) == 0;
+    finish(&whole.digest, digest);
+    return memcmp(digest, whole.stated.digest, sizeof digest) == 0;
 }
 
 static uint32_t write_mark(size_t sectors, size_t size, uint8_t *update, size_t sector, uint8_t flag, uint64_t numbers[3])
@@ -341,7 +413,7 @@ uint32_t plain_mend(size_t sectors, size_t size, const uint8_t *boot, uint8_t *u
         const uint8_t *const older_at[3] = {b, b, u};
         const uint8_t *const newer_at[3] = {u, swap, swap};
         for (int k = 0; k < 3; k++) {
-            if (i == 0 && (!begin(&older, older_at[k], room) || !begin(&newer, newer_at[k], room) || newer.version <= older.version)) {
+            if (i == 0 && !begin_both(&older, older_at[k], &newer, newer_at[k], room)) {
                 continue;
             }
             if (is_good(&newer, newer_at[k], update, i, size) && is_good(&older, older_at[k], boot, i, size)) {
@@ -349,7 +421,7 @@ uint32_t plain_mend(size_t sectors, size_t size, const uint8_t *boot, uint8_t *u
             }
         }
         /* Sector i has changed sides in every mark behind it; in sector 0 the headers have. */
-        if (i == 0 && (!begin(&older, u, room) || !begin(&newer, b, room) || newer.version <= older.version)) {
+        if (i == 0 && !begin_both(&older, u, &newer, b, room)) {
             return TAINHOSA_NO_MARK_FITS;
         }
         go_over(&older, u, i, size);

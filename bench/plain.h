@@ -18,6 +18,9 @@ uint32_t plain_read_header(const uint8_t *input, size_t len, uint64_t numbers[6]
 /* A good image: 1 and its version. */
 int plain_check_image(const uint8_t *partition, size_t room, uint32_t *version);
 
+/* Puts the digest of an image into its header: 1, or 0 where the rest of the header is refused. */
+int plain_sign_image(uint8_t *image, size_t room);
+
 /*
  * Mending, on a flash whose lengths and statuses are right: the search, the flags and the three numbers of tainhosa_mend. Its answer is
  * TAINHOSA_OK, or TAINHOSA_NO_MARK_FITS and no byte changes.

@@ -2,8 +2,9 @@
  * The stack that each call takes: it runs on a stack of its own that was painted before, and the painted bytes that are left are
  * counted. What a function that does nothing takes in the same way is subtracted; arguments that lie on the stack are not, so a call
  * of many arguments counts some bytes of its caller. Of a call with several inputs the most counts:
- * once of the inputs whose headers are as tainhosa_write_header makes them, and once of those with a header of padding, which makes
- * the longest walk.
+ * once of the inputs whose headers have their tags, and once of those with a header of padding, which makes the longest walk.
+ * The digest covers what stands before its tag: images are tried whose digest's tag is at 28, where tainhosa_write_header puts it, and
+ * elsewhere, with firmwares of several lengths, so that its last block lies in every way and takes one more or not.
  */
 #define _XOPEN_SOURCE 700
 
@@ -16,8 +17,8 @@
 
 enum { STACK = 256 * 1024, PAINT = 0xA5, SECTORS = TAINHOSA_SECTORS_MAX, SIZE = 4096, LENGTH = SECTORS * SIZE, STATUS = LENGTH - 1 };
 
-/* Mending looks at the images once for each mark: as many sectors, but small ones. */
-enum { MEND_SIZE = 512, MEND_LENGTH = SECTORS * MEND_SIZE, MEND_STATUS = MEND_LENGTH - 1 };
+/* Mending looks at the images once for each mark: small sectors, and as many only once. */
+enum { MEND_SIZE = 512, MEND_SECTORS = 8 };
 
 static uint8_t stack[STACK];
 static ucontext_t here, there;
@@ -27,6 +28,7 @@ static uint8_t bytes[128], digest[32];
 static char sheet[512];
 static uint32_t answer;
 static size_t at;
+static size_t firmware_length, mend_sectors, mend_length;
 
 static long used(action *call)
 {
@@ -92,7 +94,8 @@ static void confirm(void)
 
 static void mend(void)
 {
-    answer = tainhosa_mend(SECTORS, MEND_SIZE, boot, MEND_LENGTH, update, MEND_LENGTH, swap, MEND_SIZE, numbers, TAINHOSA_MEND_NUMBERS);
+    answer = tainhosa_mend(mend_sectors, MEND_SIZE, boot, mend_length, update, mend_length, swap, MEND_SIZE, numbers,
+                           TAINHOSA_MEND_NUMBERS);
 }
 
 static void check_firmware(void)
@@ -107,7 +110,8 @@ static void read_sheet(void)
 
 static void make_header(void)
 {
-    answer = tainhosa_make_header(header, sizeof header, boot, LENGTH - 5, 7, 1700000000, 512, true, bytes, TAINHOSA_SHEET_BYTES, numbers, 1);
+    answer = tainhosa_make_header(header, sizeof header, boot, firmware_length, 7, 1700000000, 512, true, bytes, TAINHOSA_SHEET_BYTES,
+                                  numbers, 1);
 }
 
 /* A sheet with a hint: 32 and 64 bytes as hexadecimal digits. */
@@ -171,28 +175,115 @@ static void expect_outcome(uint64_t outcome)
     }
 }
 
+/* ---- Images */
+
+/* How an image differs from one that make_image makes: bytes of padding before its tags, and bytes of firmware that it has less. */
+struct shape {
+    size_t padding;
+    size_t less;
+};
+
+static struct shape shape;
+
+/* The digest's tag is at 28, at 56, from where the length of a firmware of whole blocks takes a block more, and at 63, 64, 65 and 108. */
+enum { ALL_BUT_ONE = LENGTH - SIZE - TAINHOSA_HEADER_LENGTH - 1 };
+static const struct shape shapes[] = {
+    {0, 0}, {28, 0}, {35, 0}, {36, 0}, {37, 0}, {80, 0}, {0, 1}, {0, 36}, {0, ALL_BUT_ONE}, {28, ALL_BUT_ONE}, {36, ALL_BUT_ONE},
+};
+
+/* The same for mending. The firmware ends with its last sector, near its front, and with its first byte. */
+static const struct shape mend_shapes[] = {
+    {0, 0}, {28, 0}, {35, 0}, {36, 0}, {37, 0}, {80, 0}, {0, 484}, {28, 484}, {36, 484}, {0, 511}, {28, 511}, {36, 511},
+};
+
+static void make(uint8_t *partition, size_t length, size_t sector_size, uint32_t version)
+{
+    uint8_t *tags = partition + TAINHOSA_FIRST_TAG;
+    make_image(partition, length, sector_size, version);
+    memmove(tags + shape.padding, tags, TAINHOSA_HEADER_LENGTH - TAINHOSA_FIRST_TAG - shape.padding);
+    memset(tags, TAINHOSA_PADDING, shape.padding);
+    const size_t firmware = length - sector_size - TAINHOSA_HEADER_LENGTH - shape.less;
+    for (int i = 0; i < 4; i++) {
+        partition[TAINHOSA_FIRMWARE_SIZE_AT + i] = (uint8_t)(firmware >> 8 * i);
+    }
+    sign_image(partition, length - sector_size);
+}
+
 static void pad_header(uint8_t *p)
 {
-    memset(p + TAINHOSA_FIRST_TAG, 0xFF, TAINHOSA_HEADER_LENGTH - TAINHOSA_FIRST_TAG);
+    memset(p + TAINHOSA_FIRST_TAG, TAINHOSA_PADDING, TAINHOSA_HEADER_LENGTH - TAINHOSA_FIRST_TAG);
 }
+
+/* Plain, an update, a fallback, an update that is kept, one that is turned down, and a digest that is wrong. */
+static void take_images(void)
+{
+    make(boot, LENGTH, SIZE, 1);
+    make(update, LENGTH, SIZE, 2);
+    boot[STATUS] = TAINHOSA_STATUS_SUCCESS;
+    take(CHECK_IMAGE, TAINHOSA_OK);
+    take(CHECK_FIRMWARE, TAINHOSA_OK);
+    take(POWER_UP, TAINHOSA_OK);
+    expect_outcome(TAINHOSA_RUN);
+    take(ARM, TAINHOSA_OK);
+    take(POWER_UP, TAINHOSA_OK);
+    expect_outcome(TAINHOSA_RUN_ON_TEST);
+    take(POWER_UP, TAINHOSA_OK);
+    expect_outcome(TAINHOSA_RUN_FALLEN_BACK);
+    make(update, LENGTH, SIZE, 2);
+    take(ARM, TAINHOSA_OK);
+    take(POWER_UP, TAINHOSA_OK);
+    expect_outcome(TAINHOSA_RUN_ON_TEST);
+    take(CONFIRM, TAINHOSA_OK);
+    make(update, LENGTH, SIZE, 1);
+    take(ARM, TAINHOSA_OK);
+    take(POWER_UP, TAINHOSA_OK);
+    expect_outcome(TAINHOSA_RUN);
+    boot[TAINHOSA_HEADER_LENGTH] ^= 1;
+    take(CHECK_IMAGE, TAINHOSA_WRONG_DIGEST);
+    take(CHECK_FIRMWARE, TAINHOSA_WRONG_DIGEST);
+    take(POWER_UP, TAINHOSA_BAD_BOOT);
+    take(CONFIRM, TAINHOSA_WRONG_TIME);
+    boot[TAINHOSA_HEADER_LENGTH] ^= 1;
+}
+
+/* Padding: in UPDATE when armed, in BOOT, and in UPDATE when a fallback is due. */
+static void take_padded_images(void)
+{
+    make(update, LENGTH, SIZE, 3);
+    pad_header(update);
+    if (tainhosa_arm(SECTORS, SIZE, boot, LENGTH, update, LENGTH, swap, SIZE, numbers, 1) != TAINHOSA_OK) {
+        fail("tainhosa_arm refused");
+    }
+    take(POWER_UP, TAINHOSA_OK);
+    expect_outcome(TAINHOSA_RUN);
+    boot[STATUS] = TAINHOSA_STATUS_TESTING;
+    take(POWER_UP, TAINHOSA_NO_FALLBACK);
+    boot[STATUS] = TAINHOSA_STATUS_SUCCESS;
+    pad_header(boot);
+    take(CHECK_IMAGE, TAINHOSA_NO_END);
+    take(POWER_UP, TAINHOSA_BAD_BOOT);
+}
+
+/* ---- Lost flags */
 
 /* An update on small sectors that lost power in this move of the middle sector, and then its flags. */
 static void lose_flags(unsigned move)
 {
-    make_image(boot, MEND_LENGTH, MEND_SIZE, 1);
-    make_image(update, MEND_LENGTH, MEND_SIZE, 2);
-    boot[MEND_STATUS] = TAINHOSA_STATUS_SUCCESS;
-    if (tainhosa_arm(SECTORS, MEND_SIZE, boot, MEND_LENGTH, update, MEND_LENGTH, swap, MEND_SIZE, numbers, 1) != TAINHOSA_OK ||
-        tainhosa_power_up(SECTORS, MEND_SIZE, boot, MEND_LENGTH, update, MEND_LENGTH, swap, MEND_SIZE, 9 * (SECTORS / 2) + 3 * move + 1,
-                          numbers, 6) != TAINHOSA_OK) {
+    const uint64_t operations = 9 * (mend_sectors / 2) + 3 * move + 1;
+    make(boot, mend_length, MEND_SIZE, 1);
+    make(update, mend_length, MEND_SIZE, 2);
+    boot[mend_length - 1] = TAINHOSA_STATUS_SUCCESS;
+    if (tainhosa_arm(mend_sectors, MEND_SIZE, boot, mend_length, update, mend_length, swap, MEND_SIZE, numbers, 1) != TAINHOSA_OK ||
+        tainhosa_power_up(mend_sectors, MEND_SIZE, boot, mend_length, update, mend_length, swap, MEND_SIZE, operations, numbers, 6) !=
+            TAINHOSA_OK) {
         fail("the update did not begin");
     }
-    memset(update + MEND_STATUS - SECTORS / 2, 0x5A, SECTORS / 2);
+    memset(update + mend_length - 1 - mend_sectors / 2, 0x5A, mend_sectors / 2);
 }
 
 static void expect_mark(uint64_t flag)
 {
-    if (numbers[TAINHOSA_MEND_SECTOR] != SECTORS / 2 || numbers[TAINHOSA_MEND_FLAG] != flag) {
+    if (numbers[TAINHOSA_MEND_SECTOR] != mend_sectors / 2 || numbers[TAINHOSA_MEND_FLAG] != flag) {
         fail("mending on the painted stack found another mark");
     }
 }
@@ -212,9 +303,9 @@ static void take_mends(void)
     update[TAINHOSA_HEADER_LENGTH] ^= 1;
     boot[TAINHOSA_HEADER_LENGTH] ^= 1;
     take(MEND, TAINHOSA_NO_MARK_FITS);
-    make_image(update, MEND_LENGTH, MEND_SIZE, 1);
-    update[MEND_STATUS] = TAINHOSA_STATUS_UPDATING;
-    make_image(boot, MEND_LENGTH, MEND_SIZE, 1);
+    make(update, mend_length, MEND_SIZE, 1);
+    update[mend_length - 1] = TAINHOSA_STATUS_UPDATING;
+    make(boot, mend_length, MEND_SIZE, 1);
     take(MEND, TAINHOSA_NO_MARK_FITS);
 }
 
@@ -232,11 +323,15 @@ static void take_padded_mends(void)
     take(MEND, TAINHOSA_NO_MARK_FITS);
 }
 
+static void set_mend_sectors(size_t sectors)
+{
+    mend_sectors = sectors;
+    mend_length = sectors * MEND_SIZE;
+}
+
 int main(void)
 {
-    make_image(boot, LENGTH, SIZE, 1);
-    make_image(update, LENGTH, SIZE, 2);
-    boot[STATUS] = TAINHOSA_STATUS_SUCCESS;
+    make(boot, LENGTH, SIZE, 1);
     memset(swap, 0xFF, SIZE);
 
     take(SHA256, TAINHOSA_OK);
@@ -246,56 +341,28 @@ int main(void)
     take(NEXT_TAG, TAINHOSA_OK);
     make_sheet();
     take(READ_SHEET, TAINHOSA_OK);
-    take(MAKE_HEADER, TAINHOSA_OK);
+    for (firmware_length = LENGTH - 64; firmware_length < LENGTH; firmware_length += 7) {
+        take(MAKE_HEADER, TAINHOSA_OK);
+    }
+    for (size_t i = 0; i < sizeof shapes / sizeof shapes[0]; i++) {
+        shape = shapes[i];
+        take_images();
+    }
+    for (size_t i = 0; i < sizeof mend_shapes / sizeof mend_shapes[0]; i++) {
+        shape = mend_shapes[i];
+        set_mend_sectors(i == 0 ? SECTORS : MEND_SECTORS);
+        take_mends();
+    }
 
-    /* Plain, an update, a fallback, an update that is kept, one that is turned down, and a digest that is wrong. */
-    take(CHECK_IMAGE, TAINHOSA_OK);
-    take(CHECK_FIRMWARE, TAINHOSA_OK);
-    take(POWER_UP, TAINHOSA_OK);
-    expect_outcome(TAINHOSA_RUN);
-    take(ARM, TAINHOSA_OK);
-    take(POWER_UP, TAINHOSA_OK);
-    expect_outcome(TAINHOSA_RUN_ON_TEST);
-    take(POWER_UP, TAINHOSA_OK);
-    expect_outcome(TAINHOSA_RUN_FALLEN_BACK);
-    make_image(update, LENGTH, SIZE, 2);
-    take(ARM, TAINHOSA_OK);
-    take(POWER_UP, TAINHOSA_OK);
-    expect_outcome(TAINHOSA_RUN_ON_TEST);
-    take(CONFIRM, TAINHOSA_OK);
-    make_image(update, LENGTH, SIZE, 1);
-    take(ARM, TAINHOSA_OK);
-    take(POWER_UP, TAINHOSA_OK);
-    expect_outcome(TAINHOSA_RUN);
-    boot[1000] ^= 1;
-    take(CHECK_IMAGE, TAINHOSA_WRONG_DIGEST);
-    take(CHECK_FIRMWARE, TAINHOSA_WRONG_DIGEST);
-    take(POWER_UP, TAINHOSA_BAD_BOOT);
-    take(CONFIRM, TAINHOSA_WRONG_TIME);
-    boot[1000] ^= 1;
-
-    /* Padding: in UPDATE when armed, in BOOT, and in UPDATE when a fallback is due. */
     kind = PADDED;
+    shape = shapes[0];
     pad_header(header);
     take(READ_HEADER, TAINHOSA_NO_END);
     take(NEXT_TAG, TAINHOSA_NO_END);
-    make_image(update, LENGTH, SIZE, 3);
-    pad_header(update);
-    if (tainhosa_arm(SECTORS, SIZE, boot, LENGTH, update, LENGTH, swap, SIZE, numbers, 1) != TAINHOSA_OK) {
-        fail("tainhosa_arm refused");
-    }
-    take(POWER_UP, TAINHOSA_OK);
-    expect_outcome(TAINHOSA_RUN);
-    boot[STATUS] = TAINHOSA_STATUS_TESTING;
-    take(POWER_UP, TAINHOSA_NO_FALLBACK);
+    make(boot, LENGTH, SIZE, 1);
     boot[STATUS] = TAINHOSA_STATUS_SUCCESS;
-    pad_header(boot);
-    take(CHECK_IMAGE, TAINHOSA_NO_END);
-    take(POWER_UP, TAINHOSA_BAD_BOOT);
-
-    kind = WRITTEN;
-    take_mends();
-    kind = PADDED;
+    take_padded_images();
+    set_mend_sectors(SECTORS);
     take_padded_mends();
 
     print_all();

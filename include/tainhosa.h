@@ -29,7 +29,7 @@ extern "C" {
 /* ---- The version of this interface, and its number: 10000 for each major, 100 for each minor */
 
 #define TAINHOSA_VERSION_MAJOR 0
-#define TAINHOSA_VERSION_MINOR 4
+#define TAINHOSA_VERSION_MINOR 5
 #define TAINHOSA_VERSION_PATCH 0
 #define TAINHOSA_VERSION_NUMBER (TAINHOSA_VERSION_MAJOR * 10000 + TAINHOSA_VERSION_MINOR * 100 + TAINHOSA_VERSION_PATCH)
 
@@ -81,7 +81,7 @@ extern "C" {
 #define TAINHOSA_TYPE_END 0x0000      /* the type alone ends the header */
 #define TAINHOSA_TYPE_VERSION 0x0001
 #define TAINHOSA_TYPE_TIMESTAMP 0x0002
-#define TAINHOSA_TYPE_DIGEST 0x0003
+#define TAINHOSA_TYPE_DIGEST 0x0003   /* SHA-256 over the header's bytes before this tag, and then over the firmware */
 #define TAINHOSA_TYPE_SIGNATURE 0x0020
 #define TAINHOSA_TYPE_AUTH_TYPE 0x0030
 #define TAINHOSA_TYPE_HINT 0x1000     /* the only one that may be missing */
@@ -124,7 +124,8 @@ TAINHOSA_CALL uint32_t tainhosa_read_header(const uint8_t *input, size_t input_l
 
 /*
  * Writes a header into the first 256 bytes of out, and leaves the bytes behind them. The bytes (128) hold the digest, the
- * signature and the hint; without a hint the last 32 are not used.
+ * signature and the hint; without a hint the last 32 are not used. The digest is written as it is passed; tainhosa_make_header makes
+ * the one of a firmware.
  * OK: the header stands in out, and reads back to these values; place[0] is 0.
  * Refused with 1 (bytes are not 128, or place is not 1 number): nothing changes. With 16 or 3 (size 0 only): out stays as it was,
  * and place[0] is the place.
@@ -153,7 +154,7 @@ TAINHOSA_CALL uint32_t tainhosa_write_header(uint8_t *out, size_t out_length,
 TAINHOSA_CALL uint32_t tainhosa_next_tag(const uint8_t *input, size_t input_length, size_t at,
                                          uint64_t *tag, size_t tag_length);
 
-/* ---- The release sheet: what a header states beside the size and the digest of its firmware */
+/* ---- The release sheet: what a header states beside its size and its digest */
 
 /* A sheet's numbers: a row of 5, the first of them the line of a refusal, 0 where there is none. */
 #define TAINHOSA_SHEET_NUMBERS 5
@@ -185,9 +186,10 @@ TAINHOSA_CALL uint32_t tainhosa_read_sheet(const uint8_t *text, size_t text_leng
                                            uint8_t *bytes, size_t bytes_length);
 
 /*
- * Makes the header of a firmware in the first 256 bytes of out, and leaves the bytes behind them: size and digest are those of the
- * firmware, all else is passed, as a sheet states it. The bytes (96) hold the signature and the hint; without a hint the last 32 are
- * not used. An image is this header and then the firmware.
+ * Makes the header of a firmware in the first 256 bytes of out, and leaves the bytes behind them: the size is the firmware's, the digest
+ * is made here, all else is passed, as a sheet states it. The digest covers the header's bytes before the digest tag, 0 to 27, which
+ * hold magic, size, version and timestamp, and then the firmware. The bytes (96) hold the signature and the hint; without a hint the
+ * last 32 are not used; neither has a say in the digest. An image is this header and then the firmware.
  * OK: the header stands in out; place[0] is 0.
  * Refused with 1 (bytes are not 96, or place is not 1 number): nothing changes. With 16 or 3 (the firmware is empty, or of 2^32 bytes
  * or more): out stays as it was, and place[0] is the place.
@@ -226,7 +228,9 @@ TAINHOSA_CALL uint32_t tainhosa_make_header(uint8_t *out, size_t out_length,
 #define TAINHOSA_FLAG_EXCHANGED 0x0   /* and UPDATE's is in BOOT */
 
 /*
- * Checks the image of a partition: its header, that the sectors but the last hold its firmware, and the firmware's digest.
+ * Checks the image of a partition: its header, that the sectors but the last hold its firmware, and the digest. That covers the header's
+ * bytes from 0 up to the first byte of the digest tag, wherever it stands, with all that is before it: magic, size, padding and every
+ * tag, skipped ones too; and then the firmware, from byte 256 on. The header's bytes from the digest tag on are not covered.
  * OK: numbers (6) and bytes (128) hold the header's values, as tainhosa_read_header leaves them.
  * Refused with 1 (the geometry or the partition's length), what tainhosa_read_header refuses, 3 (firmware too large) or 9:
  * numbers[TAINHOSA_HEADER_PLACE] is the place, all else in both is 0.
@@ -326,7 +330,8 @@ TAINHOSA_CALL uint32_t tainhosa_confirm(size_t sectors, size_t size,
  * Writes the sector flags of an update again, where they were spoiled: UPDATE has to be UPDATING, and BOOT NEW or SUCCESS. The flags
  * that stand there are not read; what decides is where the images are.
  * A mark is a sector with F, 7 or 3 as its flag, 0 before it and F behind it; one more mark is all 0. It fits if the two images of
- * before the update, put together from the places that these flags show, are both good, and UPDATE's version is the greater one.
+ * before the update, header and firmware put together from the places that these flags show, are both good, and UPDATE's version is
+ * the greater one.
  * The first mark that fits is taken, by its sector and then in the order F, 7, 3, all 0 being the last one.
  * OK: UPDATE has the flags of that mark, numbers (3) holds the mark and the bytes changed, and the next power-up goes on from there.
  * Nothing else changes: neither another byte of UPDATE nor the half byte that an odd number of flags leaves unused.

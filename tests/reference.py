@@ -1,5 +1,5 @@
-"""Document 01's rules for headers, images, status bytes, flags and power-up, document 02's for mending, and the rules of the release
-sheet, once more: written from the papers, with no code of the library.
+"""Document 01's rules for headers, images, status bytes, flags and power-up, document 02's for mending and for what the digest covers, and
+the rules of the release sheet, once more: written from the papers, with no code of the library.
 
 The scripts in this folder compare what the library's programs print with what this module says.
 """
@@ -9,7 +9,7 @@ import re
 HEADER = 256
 MAGIC = bytes([0x43, 0x45, 0x52, 0x54])
 LENGTHS = {0x0001: 4, 0x0002: 8, 0x0003: 32, 0x0020: 64, 0x0030: 2, 0x1000: 32}
-OPTIONAL = 0x1000
+DIGEST, OPTIONAL = 0x0003, 0x1000
 
 
 class Refused(Exception):
@@ -86,7 +86,7 @@ def read_header(data):
         "size": size,
         "version": little(found[0x0001]),
         "timestamp": little(found[0x0002]),
-        "digest": found[0x0003],
+        "digest": found[DIGEST],
         "signature": found[0x0020],
         "auth": little(found[0x0030]),
         "hint": found.get(OPTIONAL),
@@ -98,7 +98,7 @@ def write_header(h):
     values = {
         0x0001: h["version"].to_bytes(4, "little"),
         0x0002: h["timestamp"].to_bytes(8, "little"),
-        0x0003: h["digest"],
+        DIGEST: h["digest"],
         0x0020: h["signature"],
         0x0030: h["auth"].to_bytes(2, "little"),
     }
@@ -121,6 +121,13 @@ def listing(data):
     return "".join(line + "\n" for line in lines)
 
 
+def digest_of(data, size):
+    """What a header that reads has to state: the digest over its bytes before the digest tag, whatever they are, and then over the firmware
+    (document 02, three)."""
+    before = next(p for p, kind, _ in tags(data) if kind == DIGEST)
+    return hashlib.sha256(data[:before] + data[HEADER : HEADER + size]).digest()
+
+
 def geometry_fits(n, s):
     m = n - 1
     trailer = 1 + (m // 2 if m % 2 == 0 else m // 2 + 1)
@@ -134,7 +141,7 @@ def check_image(n, s, partition):
     h = read_header(partition)
     if h["size"] > (n - 1) * s - HEADER:
         raise Refused(3, 4)
-    if hashlib.sha256(partition[HEADER : HEADER + h["size"]]).digest() != h["digest"]:
+    if digest_of(partition, h["size"]) != h["digest"]:
         raise Refused(9, HEADER)
     return h
 
@@ -144,7 +151,7 @@ def check_firmware(data):
     h = read_header(data)
     if h["size"] > len(data) - HEADER:
         raise Refused(3, 4)
-    if hashlib.sha256(data[HEADER : HEADER + h["size"]]).digest() != h["digest"]:
+    if digest_of(data, h["size"]) != h["digest"]:
         raise Refused(9, HEADER)
     return h
 
@@ -211,7 +218,10 @@ def make_image(sheet, firmware):
     """The image of a firmware with what a sheet states, or Refused."""
     if len(firmware) == 0 or len(firmware) >= 1 << 32:
         raise Refused(3, 4)
-    return write_header({**sheet, "size": len(firmware), "digest": hashlib.sha256(firmware).digest()}) + firmware
+    values = {**sheet, "size": len(firmware)}
+    # Which digest stands there has no say in the bytes before its tag.
+    unstated = write_header({**values, "digest": bytes(32)}) + firmware
+    return write_header({**values, "digest": digest_of(unstated, len(firmware))}) + firmware
 
 
 # ---- status bytes and flags

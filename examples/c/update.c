@@ -18,18 +18,16 @@ static void expect_ok(const char *call, uint32_t answer) {
 }
 
 /* An image of as many firmware bytes, all the same, in an erased partition. */
-static void make_image(const char *name, uint8_t *partition, uint32_t version, int fill, uint32_t size) {
-    struct tainhosa_header header = {0};
+static void make_image(const char *name, uint8_t *partition, uint32_t version, int fill, size_t size) {
+    struct tainhosa_sheet sheet = {0};
     uint64_t place;
     uint8_t *firmware = partition + TAINHOSA_HEADER_LENGTH;
     memset(partition, 0xFF, PARTITION);
     memset(firmware, fill, size);
-    header.size = size;
-    header.version = version;
-    header.timestamp = 1700000000;
-    header.auth_type = 512;
-    expect_ok("sha256", tainhosa_sha256(firmware, size, header.digest, sizeof header.digest));
-    expect_ok("header_write", tainhosa_header_write(partition, PARTITION, &header, &place));
+    sheet.version = version;
+    sheet.timestamp = 1700000000;
+    sheet.auth_type = 512;
+    expect_ok("header_make", tainhosa_header_make(partition, PARTITION, firmware, size, &sheet, &place));
     printf("made version %u in %s\n", (unsigned)version, name);
 }
 

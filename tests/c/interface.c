@@ -1,7 +1,7 @@
 /*
  * The C interface, used whole: every constant, every call and every struct of include/tainhosa.h. What is expected is written out here
- * by the rules of documents 01 and 02 and the examples of FIPS 180-4, and nothing of it was made by the library. tests/c-interface compiles
- * this file as C99, C11 and C++, and runs it.
+ * by the rules of documents 01 and 02 and the examples of FIPS 180-4, and nothing of it was made by the library; the digests that headers
+ * state are sha256sum's. tests/c-interface compiles this file as C99, C11 and C++, and runs it.
  */
 #define _DEFAULT_SOURCE
 #include <stdio.h>
@@ -58,6 +58,25 @@ static const struct {
 };
 enum { EMPTY, SHORT, LONG, LONGER };
 
+/* What the headers below state, with such a firmware and version: the digest over their first 28 bytes and then the firmware. */
+static const struct {
+    int firmware;
+    uint32_t version;
+    const char *digest;
+} stated[] = {
+    {SHORT, 1, "7cd778523c6a51866234509d61f2c5bfa0372d9226e7b5a30d678cd6ad62600c"},
+    {SHORT, 3, "1c42a1196c679f7e40fd37b89b229530fb8059e62bda3b674c12d5828a09bc8b"},
+    {SHORT, 7, "42c7b9329254e2c3defdd7c08fc4a9af95786f81c9ab9135224bcaaca9f938e7"},
+    {SHORT, 9, "b489741fb88f1fd7a24a4960c14041f49c83499a4ae071073ba7fa80cc2c7352"},
+    {LONG, 0x04030201, "f2704ed8c18b167f5d15797b19cf746fb55b0f461ec39d8eb7157d141521edbe"},
+    {LONGER, 2, "7972598fd53bdbc39f86da5bab27923d464cfa8f96b22d0fc77656e36c195d17"},
+    {LONGER, 3, "0f1c4796744f6c840e1f0dd09f3f3351dfdaf34dcb7a522f444d092b238bb239"},
+    {LONGER, 7, "095f54ffb4d964f94bbcede1b8125e835872d5ba1875a776e6557b7da03dd45f"},
+    {LONGER, 8, "d3a20206be93365ca2dfba0c0671ffeb205bf65eaed6841e6aa3fb79acf23707"},
+    {LONGER, 9, "c97a109ed67fa248d2ba228047ee3557bff5bc15265728440138cd9fe2e6d9f9"},
+    {LONGER, 10, "581642cde6cfa2aa6a4c63f6f3de091cab08a6b25f242c1226399e39f4934f97"},
+};
+
 static const uint8_t *bytes_of(const char *text) { return (const uint8_t *)text; }
 
 static uint8_t digit(char c) { return (uint8_t)(c <= '9' ? c - '0' : (c | 32) - 'a' + 10); }
@@ -66,6 +85,15 @@ static void from_hex(uint8_t *to, const char *digits) {
     for (; *digits != 0; digits += 2) {
         *to++ = (uint8_t)(digit(digits[0]) * 16 + digit(digits[1]));
     }
+}
+
+static void stated_digest(uint8_t *to, int firmware, uint32_t version) {
+    size_t i = 0, count = sizeof stated / sizeof stated[0];
+    while (i < count && (stated[i].firmware != firmware || stated[i].version != version)) {
+        i++;
+    }
+    EQUAL(i < count, true);
+    from_hex(to, stated[i < count ? i : 0].digest);
 }
 
 /* A number of so many bytes, low byte first. */
@@ -91,7 +119,7 @@ static void put_header(uint8_t *to, int firmware, uint32_t version, bool has_hin
     put_tag(to + 16, 0x0002, 8);
     put(to + 20, 8, 1700000000);
     put_tag(to + 28, 0x0003, 32);
-    from_hex(to + 32, fips[firmware].digest);
+    stated_digest(to + 32, firmware, version);
     put_tag(to + 64, 0x0020, 64);
     from_hex(to + 68, SIGNATURE_DIGITS);
     put_tag(to + 132, 0x0030, 2);
@@ -117,9 +145,9 @@ static size_t put_image(uint8_t *to, int firmware, uint32_t version) {
 
 static void constants(void) {
     EQUAL(TAINHOSA_VERSION_MAJOR, 0);
-    EQUAL(TAINHOSA_VERSION_MINOR, 4);
+    EQUAL(TAINHOSA_VERSION_MINOR, 5);
     EQUAL(TAINHOSA_VERSION_PATCH, 0);
-    EQUAL(TAINHOSA_VERSION_NUMBER, 400);
+    EQUAL(TAINHOSA_VERSION_NUMBER, 500);
     EQUAL(TAINHOSA_OK, 0);
     EQUAL(TAINHOSA_OUTSIDE_RULES, 1);
     EQUAL(TAINHOSA_WRONG_MAGIC, 2);
@@ -191,7 +219,7 @@ static void digests(void) {
 /* The struct holds what put_header states. */
 static void expect_values(const struct tainhosa_header *header, int firmware, uint32_t version, bool has_hint) {
     uint8_t digest[32], signature[64], hint[32];
-    from_hex(digest, fips[firmware].digest);
+    stated_digest(digest, firmware, version);
     from_hex(signature, SIGNATURE_DIGITS);
     from_hex(hint, HINT_DIGITS);
     EQUAL(header->place, 0);
@@ -229,7 +257,7 @@ static void fill_values(struct tainhosa_header *header, int firmware, uint32_t v
     header->timestamp = 1700000000;
     header->auth_type = 512;
     header->has_hint = has_hint;
-    from_hex(header->digest, fips[firmware].digest);
+    stated_digest(header->digest, firmware, version);
     from_hex(header->signature, SIGNATURE_DIGITS);
     from_hex(header->hint, HINT_DIGITS);
 }
@@ -242,7 +270,7 @@ static void writing(void) {
     EQUAL(TAINHOSA_HEADER_BYTES, 128);
     EQUAL(TAINHOSA_WRITE_NUMBERS, 1);
     memset(bytes, BEFORE, sizeof bytes);
-    from_hex(bytes + TAINHOSA_DIGEST_AT, fips[SHORT].digest);
+    stated_digest(bytes + TAINHOSA_DIGEST_AT, SHORT, 7);
     from_hex(bytes + TAINHOSA_SIGNATURE_AT, SIGNATURE_DIGITS);
     from_hex(bytes + TAINHOSA_HINT_AT, HINT_DIGITS);
     for (has_hint = 0; has_hint < 2; has_hint++) {
@@ -313,7 +341,7 @@ static void reading(void) {
     EQUAL(numbers[TAINHOSA_HEADER_TIMESTAMP], 1700000000);
     EQUAL(numbers[TAINHOSA_HEADER_AUTH_TYPE], 512);
     EQUAL(numbers[TAINHOSA_HEADER_HAS_HINT], 1);
-    from_hex(should, fips[LONG].digest);
+    stated_digest(should, LONG, 0x04030201);
     SAME(bytes + TAINHOSA_DIGEST_AT, should, TAINHOSA_DIGEST_BYTES);
     from_hex(should, SIGNATURE_DIGITS);
     SAME(bytes + TAINHOSA_SIGNATURE_AT, should, TAINHOSA_SIGNATURE_BYTES);
@@ -571,6 +599,15 @@ static void making(void) {
     EQUAL(out[256], BEFORE);
     EQUAL(place[TAINHOSA_WRITE_PLACE], 0);
 
+    /* Signature, auth type and hint have no say in the digest; the version has. */
+    memset(bytes, 0xFF, sizeof bytes);
+    EQUAL(tainhosa_make_header(out, 256, firmware, length, 7, 1700000000, 0, true, bytes, 96, place, 1), TAINHOSA_OK);
+    SAME(out, should, 64);
+    EVERY(out, 68, 132, 0xFF);
+    stated_digest(should + 32, LONGER, 8);
+    EQUAL(tainhosa_make_header(out, 256, firmware, length, 8, 1700000000, 0, true, bytes, 96, place, 1), TAINHOSA_OK);
+    SAME(out + 32, should + 32, 32);
+
     memset(out, BEFORE, sizeof out);
     place[0] = place[1] = BEFORE;
     EQUAL(tainhosa_make_header(out, 0, firmware, length, 7, 0, 0, false, bytes, 95, place, 1), TAINHOSA_OUTSIDE_RULES);
@@ -634,7 +671,7 @@ static void images(void) {
     expect_values(&header, SHORT, 7, false);
     EQUAL(tainhosa_check_image(TAINHOSA_SECTORS_MAX, 512, large, 512 * 512, numbers, 6, bytes, 128), TAINHOSA_OK);
     EQUAL(numbers[TAINHOSA_HEADER_VERSION], 7);
-    from_hex(digest, fips[SHORT].digest);
+    stated_digest(digest, SHORT, 7);
     SAME(bytes + TAINHOSA_DIGEST_AT, digest, 32);
     EQUAL(tainhosa_image_check(TAINHOSA_SECTORS_MIN, TAINHOSA_SIZE_MAX, large, 2 * 131072, &header), TAINHOSA_OK);
     EQUAL(tainhosa_image_check(2, TAINHOSA_SIZE_MIN + TAINHOSA_SIZE_UNIT, large, 1024, &header), TAINHOSA_OK);
@@ -676,6 +713,73 @@ static void images(void) {
     EQUAL(tainhosa_check_firmware(large, 259, numbers, 6, bytes, 127), TAINHOSA_OUTSIDE_RULES);
     EVERY((const uint8_t *)numbers, 0, sizeof numbers, BEFORE);
     EVERY(bytes, 0, sizeof bytes, BEFORE);
+}
+
+/* Both checks of the image in the first sectors of `large`: good, or refused with 9. */
+static void expect_covered(int line, bool good) {
+    struct tainhosa_header header;
+    uint32_t answer = good ? TAINHOSA_OK : TAINHOSA_WRONG_DIGEST;
+    expect(line, "tainhosa_image_check", tainhosa_image_check(3, 256, large, 768, &header), answer);
+    expect(line, "place", header.place, good ? 0 : 256);
+    expect(line, "tainhosa_firmware_check", tainhosa_firmware_check(large, 259, &header), answer);
+    expect(line, "place", header.place, good ? 0 : 256);
+}
+
+#define GOOD_IMAGE() expect_covered(__LINE__, true)
+#define OTHER_DIGEST() expect_covered(__LINE__, false)
+
+/* The digest covers the header's bytes before the digest tag, and then the firmware (document 02, three). */
+static void covered(void) {
+    size_t at;
+    memset(large, 0xFF, 768);
+    put_image(large, SHORT, 7);
+    GOOD_IMAGE();
+    from_hex(large + 32, fips[SHORT].digest);
+    OTHER_DIGEST(); /* of the firmware alone */
+    for (at = 12; at < 260; at++) {
+        bool version = at < 16, timestamp = at >= 20 && at < 28, digest = at >= 32 && at < 64, firmware = at >= 256 && at < 259;
+        bool signature = at >= 68 && at < 132, auth_type = at == 136 || at == 137, behind_end = at >= 140 && at < 256;
+        put_image(large, SHORT, 7);
+        large[at] ^= 1;
+        if (version || timestamp || digest || firmware) {
+            OTHER_DIGEST();
+        } else if (signature || auth_type || behind_end || at == 259) {
+            GOOD_IMAGE();
+        }
+    }
+    put_image(large, SHORT, 7);
+    put(large + 4, 4, 2);
+    OTHER_DIGEST();
+
+    /* Two bytes of padding and a skipped tag come first, and what it holds looks like a digest tag. The digest tag is at 38. */
+    put_image(large, SHORT, 7);
+    memmove(large + 18, large + 8, 132);
+    memset(large + 8, 0xFF, 2);
+    put_tag(large + 10, 0x0042, 4);
+    put_tag(large + 14, 0x0003, 32);
+    OTHER_DIGEST();
+    from_hex(large + 42, "eed060a7dc212bc00f3223aafe1a78d7e41f29e864698fef116891c0f69d214d");
+    GOOD_IMAGE();
+    large[10] = 0x43;
+    OTHER_DIGEST();
+    large[10] = 0x42;
+    large[17] = 0x01;
+    OTHER_DIGEST();
+    large[17] = 0x00;
+    memmove(large + 9, large + 10, 140);
+    large[149] = 0xFF;
+    OTHER_DIGEST(); /* one byte of padding less */
+
+    /* The digest tag is the first one: only magic and size stand before it, and the version is not covered. */
+    put_image(large, SHORT, 7);
+    memmove(large + 44, large + 8, 20);
+    put_tag(large + 8, 0x0003, 32);
+    from_hex(large + 12, "282c49cc157c369f2e2fece663c53cee9dd22430a8e135fedb70455b4baf21f9");
+    GOOD_IMAGE();
+    put(large + 48, 4, 8);
+    GOOD_IMAGE();
+    put(large + 4, 4, 2);
+    OTHER_DIGEST();
 }
 
 /* ---- Power-up, arm and confirm, on document 01's three sectors of 256: flag byte 766, status 767 */
@@ -852,6 +956,9 @@ static void turning_down(void) {
     armed(1, 2);
     update[256] ^= 1;
     TURNED_DOWN(UINT64_MAX, TAINHOSA_RUN, 1, TAINHOSA_WRONG_DIGEST, 256);
+    armed(7, 7);
+    put(update + 12, 4, 8); /* not newer, and made to look so */
+    TURNED_DOWN(UINT64_MAX, TAINHOSA_RUN, 1, TAINHOSA_WRONG_DIGEST, 256);
     armed(1, 2);
     put(update + 16, 2, 0x0001);
     TURNED_DOWN(UINT64_MAX, TAINHOSA_RUN, 1, TAINHOSA_TAG_WRONG_LENGTH, 16);
@@ -969,6 +1076,7 @@ static void armed_and_cut(uint64_t operations) {
  */
 static void mending(void) {
     struct tainhosa_flash good = flash;
+    struct tainhosa_mended mended;
     unsigned spoiled;
 
     armed_and_cut(0);
@@ -1007,6 +1115,23 @@ static void mending(void) {
         armed_and_cut(7);
         MEND((uint8_t)spoiled, 0, TAINHOSA_FLAG_MOVED, 0xF3, 15);
     }
+
+    /* Another signature of UPDATE's image, whose header is in BOOT, has no say; another version, or one of BOOT's image, has. */
+    armed_and_cut(13);
+    boot[68] ^= 1;
+    EQUAL(tainhosa_flash_mend(&flash, &mended), TAINHOSA_OK);
+    EQUAL(mended.sector, 1);
+    EQUAL(mended.flag, TAINHOSA_FLAG_SAVED);
+    armed_and_cut(13);
+    put(boot + 12, 4, 3);
+    NO_MEND(TAINHOSA_NO_MARK_FITS);
+    armed_and_cut(13);
+    put(update + 12, 4, 0);
+    NO_MEND(TAINHOSA_NO_MARK_FITS);
+    armed_and_cut(3);
+    swap[20] ^= 1;
+    update[20] ^= 1;
+    NO_MEND(TAINHOSA_NO_MARK_FITS);
 
     /* No mark fits: UPDATE's firmware is damaged, BOOT's is, the versions are equal. */
     armed_and_cut(13);
@@ -1132,6 +1257,7 @@ int main(void) {
     sheets();
     making();
     images();
+    covered();
     an_update();
     after_an_update();
     turning_down();

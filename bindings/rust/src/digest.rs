@@ -1,6 +1,7 @@
 use crate::raw;
 
-/// The SHA-256 digest of a message (FIPS 180-4). Of a firmware it is what the header states and what is signed.
+/// The SHA-256 digest of a message (FIPS 180-4). A header's digest has another message than the firmware alone: see
+/// [`Sheet::make_header`](crate::Sheet::make_header), which makes it.
 ///
 /// ```
 /// let digest = tainhosa::sha256(b"abc");

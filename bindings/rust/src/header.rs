@@ -30,7 +30,7 @@ pub struct Header {
     pub version: u32,
     /// The timestamp, in unix seconds.
     pub timestamp: u64,
-    /// The firmware's SHA-256 digest.
+    /// The SHA-256 digest of the header's bytes before the digest tag, and then of the firmware.
     pub digest: [u8; 32],
     /// The signature, which the library does not check.
     pub signature: [u8; 64],
@@ -77,7 +77,7 @@ impl Rows {
 }
 
 impl Header {
-    /// Reads the header in the first 256 bytes; what follows them is not looked at, and the firmware's digest is not checked.
+    /// Reads the header in the first 256 bytes; what follows them is not looked at, and the digest is not checked.
     ///
     /// Refused with 16, 2, 3 (size 0 only), 4, 5, 6, 7 or 8.
     pub fn read(input: &[u8]) -> Result<Header, Refusal> {
@@ -86,7 +86,8 @@ impl Header {
         rows.read(answer)
     }
 
-    /// The 256 bytes of a header with these values, which read back to them.
+    /// The 256 bytes of a header with these values, which read back to them. The digest is written as it is; that of a firmware is made
+    /// by [`Sheet::make_header`](crate::Sheet::make_header).
     ///
     /// Refused with 3 where the size is 0.
     pub fn write(&self) -> Result<[u8; HEADER_LENGTH], Refusal> {

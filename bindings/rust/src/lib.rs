@@ -24,9 +24,12 @@
 //! image.extend_from_slice(firmware);
 //! assert_eq!(Image::check(&image)?.header().version, 7);
 //!
-//! image[260] ^= 1;
-//! let refusal = Image::check(&image).unwrap_err();
-//! assert_eq!(refusal.to_string(), "refused 9 at 256");
+//! // The version's first byte, and a byte of the firmware.
+//! for changed in [12, 260] {
+//!     let mut image = image.clone();
+//!     image[changed] ^= 1;
+//!     assert_eq!(Image::check(&image).unwrap_err().to_string(), "refused 9 at 256");
+//! }
 //! # Ok::<(), tainhosa::Refusal>(())
 //! ```
 //!

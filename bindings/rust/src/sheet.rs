@@ -3,7 +3,7 @@ use crate::raw::{self, Values};
 use crate::{Refusal, HEADER_LENGTH};
 use std::fmt;
 
-/// What a release sheet states. The size and the digest of an image are not on it: they come from the firmware.
+/// What a release sheet states. The size and the digest of an image are not on it: [`Sheet::make_header`] makes them.
 ///
 /// A sheet is a text. Its lines end at a line feed; empty lines and lines that begin with `#` are passed over. Every other line is a
 /// name, one space, and a value; each of the five names stands in the sheet exactly once, in any order:
@@ -32,7 +32,7 @@ pub struct Sheet {
     pub timestamp: u64,
     /// The type of the authentication.
     pub auth_type: u16,
-    /// The signature of the firmware's digest.
+    /// The signature of the header's digest.
     pub signature: [u8; 64],
     /// The hint at the key, if there is one.
     pub hint: Option<[u8; 32]>,
@@ -58,7 +58,8 @@ impl Sheet {
         })
     }
 
-    /// The header of this firmware: its size and digest are the firmware's, all else is the sheet's. An image is this and the firmware.
+    /// The header of this firmware: its size is the firmware's, its digest covers its bytes before the digest tag (magic, size, version
+    /// and timestamp) and then the firmware, and all else is the sheet's. An image is this and the firmware.
     ///
     /// Refused with 3 where the firmware is empty, or has 2^32 bytes or more.
     pub fn make_header(&self, firmware: &[u8]) -> Result<[u8; HEADER_LENGTH], Refusal> {

@@ -72,9 +72,9 @@ pub const MEANINGS: [Meaning; 22] = [
     row(
         9,
         Place::Byte,
-        "the firmware is not the one that the header was made for: its digest differs",
-        "The firmware was damaged or changed after the header was made: get the file again. If the change was meant, have the new \
-         digest signed and make the image again.",
+        "the firmware, or the header before its digest tag, is not what the digest was made of: the digest differs",
+        "The firmware, its size, the version, or something else before the digest tag was damaged or changed: get the file again. If the \
+         change was meant, or the digest was made of the firmware alone, have the new digest signed and make the image again.",
     ),
     row(
         10,

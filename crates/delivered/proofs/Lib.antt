@@ -3,3 +3,4 @@ pub mod Delivered
 pub mod Called
 pub mod PastFinish
 pub mod Started
+pub mod Changed

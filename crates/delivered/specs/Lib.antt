@@ -3,3 +3,4 @@ pub mod Demand
 pub mod MarkedCases
 pub mod Witness
 pub mod PastFinish
+pub mod Changed

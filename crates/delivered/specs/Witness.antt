@@ -4,7 +4,7 @@ use mathlib.Core.Path.{_≡_}
 use mathlib.Core.Bool.{false}
 use mathlib.Core.List.{List, [], _∷_, _++_, map}
 use Prim.Native.Nat.{ℕ, _+_, _≤_}
-use lib.ListN.{length, replicate}
+use lib.ListN.{length, take, replicate}
 use Rattle.digest_fips180.specs.Sha256.{sha256}
 use Rattle.header_reader.specs.declared.Header.{Header}
 use Rattle.header_writer.specs.Writing.{headerBytes}
@@ -18,19 +18,23 @@ use Rattle.exchange.specs.Reached.{roughList, Reached}
 use Rattle.image.specs.Verdict.{checkOf}
 use Rattle.delivered.specs.Demand.{CallEvent, keptPower, cutOff, seen, AllowedCalls}
 
--- An image of a version, over a firmware of one byte, in two sectors of 256; and a trailer sector with a status byte.
-abbrev pub headerOf : ℕ → Header
-headerOf version =
+-- An image of a version, over a firmware of one byte, in two sectors of 256; and a trailer sector with a status byte. The digest is that of
+-- the header's bytes before the digest tag, which the writer puts at 28, and of the firmware.
+abbrev pub headerStating : ℕ → List ℕ → Header
+headerStating version digest =
     record {
       size = 1;
       version = version;
       timestamp = 1700000000;
-      digest = sha256 (version ∷ []);
+      digest = digest;
       signature = replicate 64 0;
       «auth_type» = 512;
       «has_hint» = false;
       hint = replicate 32 0;
     }
+
+abbrev pub headerOf : ℕ → Header
+headerOf version = headerStating version (sha256 (take 28 (headerBytes (headerStating version (replicate 32 0))) ++ version ∷ []))
 
 unfoldable pub imagePartition : ℕ → ℕ → List ℕ
 imagePartition version status = headerBytes (headerOf version) ++ (version ∷ replicate 255 0) ++ (replicate 255 0xFF ++ status ∷ [])

@@ -1,2 +1,3 @@
 -- SHA-256: the standard.
 pub mod Sha256
+pub mod Collision

@@ -8,7 +8,7 @@ use lib.ListN.{length, take, drop, replicate, length-append, length-drop, drop-o
 use lib.Seq.{take-at, length-take-le, take-append-le, drop-append-le, drop-drop}
 use Rattle.digest_sha256.specs.declared.Hasher.{Hasher}
 use Rattle.digest_fips180.specs.Sha256.{block, words, zeros, bigEndian, padding, pad, H0, compress, hash, bytes, sha256}
-use Rattle.digest_sha256.specs.Parts.{settle, stateOf, waiting, absorbOf, absorbAll, joined, finishOf, digestAfter}
+use Rattle.digest_sha256.specs.Parts.{hashOver, leftOf, settle, stateOf, waiting, absorbOf, absorbAll, joined, finishOf, digestAfter}
 use Rattle.digest_sha256.specs.Claims.{ConcatenationLaw, AbsorbLaw, FinishLaw, PartsLaw}
 
 pub cons : {x y : ℕ} {xs ys : List ℕ} → x ≡ y → xs ≡ ys → x ∷ xs ≡ y ∷ ys
@@ -102,15 +102,17 @@ pub after-blocks : (h m : List ℕ) (n : ℕ) → digestAfter (hash h m (length 
 unfolding digestAfter settle
 after-blocks h m n = ap (λ (d : Hasher). bytes (d .words)) (settle-front h m (padding n) 0)
 
+-- what a leaves is hashed with b
+pub hash-front-on : (h a b : List ℕ) → hashOver (hashOver h a) (leftOf a ++ b) ≡ hashOver h (a ++ b)
+unfolding settle
+hash-front-on h a b = ap (λ (d : Hasher). d .words) (settle-front h a b 0)
+
 -- where a is whole blocks nothing of it is left: b is hashed, or digested, from its hash value on
 none-left : (a : List ℕ) → length a % 64 ≡ 0 → drop (64 * (length a / 64)) a ≡ []
 none-left a z = drop-of-length-le a {i = 64 * (length a / 64)} (omega arith)
 
-pub hash-on : (h a b : List ℕ) → length a % 64 ≡ 0 → hash (hash h a (length a / 64)) b (length b / 64) ≡ hash h (a ++ b) (length (a ++ b) / 64)
-unfolding settle
-hash-on h a b z =
-    ap (λ (x : List ℕ). hash (hash h a (length a / 64)) (x ++ b) (length (x ++ b) / 64)) (sym (none-left a z))
-    ∙ ap (λ (d : Hasher). d .words) (settle-front h a b 0)
+pub hash-on : (h a b : List ℕ) → length a % 64 ≡ 0 → hashOver (hashOver h a) b ≡ hashOver h (a ++ b)
+hash-on h a b z = ap (λ (x : List ℕ). hashOver (hashOver h a) (x ++ b)) (sym (none-left a z)) ∙ hash-front-on h a b
 
 pub after-whole : (h a b : List ℕ) (n : ℕ) → length a % 64 ≡ 0 → digestAfter (hash h a (length a / 64)) b n ≡ digestAfter h (a ++ b) n
 after-whole h a b n z =

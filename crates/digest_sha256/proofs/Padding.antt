@@ -4,9 +4,9 @@ use mathlib.Core.List.{List, [], _∷_, _++_, append-assoc}
 use Prim.Native.Nat.{ℕ, suc, _+_, _-_, _*_, _/_, _%_, _^_, _≤_, _<_}
 use native.Mathlib.Omega.{arith}
 use lib.ListN.{length, take, drop, replicate, set, length-append, length-replicate, replicate-append-replicate}
-use lib.Seq.{take-at, drop-at, take-all, take-length, set-at}
+use lib.Seq.{take-at, drop-at, take-all, set-at}
 use Rattle.digest_fips180.specs.Sha256.{block, words, zeros, bigEndian, padding, compress, hash}
-use Rattle.digest_bytes.proofs.Blocks.{drop-zeros}
+use Rattle.digest_sha256.specs.Parts.{zeroed}
 use Rattle.digest_sha256.proofs.Concatenation.{field-wrap}
 
 -- ---- blocks
@@ -29,15 +29,13 @@ two-blocks h a b la lb =
 abbrev pub marked : List ℕ → List ℕ
 marked r = (r ++ 0x80 ∷ []) ++ replicate (63 - length r) 0
 
-pub marked-law : (r : List ℕ) {b t : List ℕ} → length r < 64 → b ≡ take (length r) r ++ drop (length r) (replicate 64 0)
-    → t ≡ set b (length r) 0x80 → t ≡ marked r
-marked-law r h eb et =
-    let n : ℕ = length r in
-    let e : 64 - n ≡ suc (63 - n) = omega arith in
-    let z = drop-zeros 64 n (omega arith) ∙ ap (λ (x : ℕ). replicate {A = ℕ} x 0) e in
-    et ∙ ap (λ (x : List ℕ). set x n 0x80) (eb ∙ ap₂ (λ (x y : List ℕ). x ++ y) (take-length r) z)
-    ∙ set-at r 0 (replicate (63 - n) 0) 0x80 n refl
-    ∙ sym (append-assoc r (0x80 ∷ []) (replicate (63 - n) 0))
+pub marked-law : (r : List ℕ) (n : ℕ) {b t : List ℕ} → length r ≡ n → n < 64 → b ≡ zeroed r → t ≡ set b n 0x80 → t ≡ marked r
+marked-law r n l h eb et =
+    let k : ℕ = 63 - length r in
+    let e : 64 - length r ≡ suc k = omega arith in
+    et ∙ ap (λ (x : List ℕ). set x n 0x80) (eb ∙ ap (λ (x : ℕ). r ++ replicate x 0) e)
+    ∙ set-at r 0 (replicate k 0) 0x80 n l
+    ∙ sym (append-assoc r (0x80 ∷ []) (replicate k 0))
 
 pub length-marked : (r : List ℕ) → length r < 64 → length (marked r) ≡ 64
 length-marked r h =

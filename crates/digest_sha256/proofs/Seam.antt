@@ -1,97 +1,128 @@
--- A message in two places: the block where they meet. Assumes nothing.
+-- A message that lies in two places, as the code hashes it.
 use mathlib.Core.Path.{_≡_, refl, sym, ap, ap₂, _∙_}
-use mathlib.Core.List.{List, [], _++_, append-nil, append-assoc}
+use mathlib.Core.List.{List, [], _++_, append-assoc, append-nil}
 use Prim.Native.Nat.{ℕ, _+_, _-_, _*_, _/_, _%_, _^_, _≤_, _<_}
-use native.Mathlib.Omega.{arith}
 use native.Mathlib.Decide.{decLt}
+use native.Mathlib.Omega.{arith}
 use lib.ListN.{length, take, drop, replicate, length-append, length-drop, take-append-drop, drop-of-length-le}
-use lib.Seq.{paste, take-at, take-all, take-length, length-take-le}
+use lib.Seq.{paste, take-length, length-take-le, drop-append-le, drop-append-add}
 use Rattle.digest_fips180.specs.Sha256.{words, padding, H0, compress, hash, bytes, sha256}
-use Rattle.digest_sha256.specs.Parts.{digestAfter}
+use Rattle.digest_sha256.specs.Parts.{hashOver, leftOf, zeroed, digestAfter}
 use Rattle.digest_bytes.proofs.Blocks.{drop-zeros, put-law}
 use Rattle.digest_sha256.proofs.Pending.{from}
 use Rattle.digest_sha256.proofs.Padding.{one-block}
-use Rattle.digest_sha256.proofs.Concatenation.{after-front, digest-law, padding-wrap}
+use Rattle.digest_sha256.proofs.Concatenation.{hash-front-on, hash-on, after-blocks, digest-law, padding-wrap}
 
--- where the block is not full, all of b is in it
-pub all-in : (f k n : ℕ) → k ≤ n → (k < n → k ≡ 64 - f) → f + k < 64 → k ≡ n
-all-in f k n le more lt = go (decLt k n)
-  where
-    go : Dec (k < n) → k ≡ n
-    go (yes below) = absurd (omega (arith, more below))
-    go (no above) = omega arith
+-- ---- one block
 
--- what is left of b behind the block, and the count, modulo 64
-pub left-over : (n k m c : ℕ) → n % 64 + k ≡ 64 → k ≤ m → c ≡ (n + m) % 2 ^ 64 → (m - k) % 64 ≡ c % 64
-left-over n k m c full le count = omega arith
+-- two parts laid into zeros, one behind the other
+pub laid : (x y : List ℕ) {p q : List ℕ} → length x + length y ≤ 64 → p ≡ take (length x) x ++ drop (length x) (replicate 64 0)
+    → q ≡ paste p (length x) y (length y) → q ≡ zeroed (x ++ y)
+laid x y {p} h e f =
+    let z : drop {A = ℕ} (length x) (replicate 64 0) ≡ replicate (64 - length x) 0 = drop-zeros 64 (length x) (omega arith) in
+    let g : p ≡ x ++ replicate (64 - length x) 0 = e ∙ ap₂ (λ (a b : List ℕ). a ++ b) (take-length x) z in
+    f ∙ ap (λ (l : List ℕ). paste l (length x) y (length y)) g ∙ put-law x y (length x) refl h
+    ∙ ap (λ (k : ℕ). (x ++ y) ++ replicate (64 - k) 0) (sym (length-append x y))
 
--- one block may be compressed before y comes
-after-block : (h q y : List ℕ) (n : ℕ) → length q ≡ 64 → digestAfter (compress h (words q)) y n ≡ digestAfter h (q ++ y) n
-after-block h q y n l =
-    let e : _≡_ {A = List ℕ} (drop (64 * (length q / 64)) q) [] = drop-of-length-le q {i = 64 * (length q / 64)} (omega arith) in
-    ap₂ (λ (x z : List ℕ). digestAfter x (z ++ y) n) (sym (one-block h q l)) (sym e) ∙ after-front h q y n
+-- a full block has no zeros behind it
+full : (q : List ℕ) → length q ≡ 64 → zeroed q ≡ q
+full q l = let z : 64 - length q ≡ 0 = omega arith in ap (λ (k : ℕ). q ++ replicate k 0) z ∙ append-nil q
+
+-- ---- the whole blocks of a and then b
+
+module _ (h a b : List ℕ) {s : List ℕ} (hashed : s ≡ hashOver h a) where
+  length-left : length (leftOf a) ≡ length a % 64
+  length-left = length-drop (64 * (length a / 64)) a ∙ omega arith
+
+  -- b does not fill the block that a begins
+  pub none-more : length b < 64 - length a % 64 → s ≡ hashOver h (a ++ b)
+  unfolding hash
+  none-more lt =
+      let l : length (leftOf a ++ b) ≡ length a % 64 + length b = length-append (leftOf a) b ∙ ap (λ (x : ℕ). x + length b) length-left in
+      let z : length (leftOf a ++ b) / 64 ≡ 0 = omega arith in
+      hashed ∙ sym (ap (hash (hashOver h a) (leftOf a ++ b)) z) ∙ hash-front-on h a b
+
+  -- the block that a begins ends with the first k bytes of b
+  pub block-more : (k : ℕ) {f : ℕ} {p g r : List ℕ} → k ≡ 64 - length a % 64 → k ≤ length b → f ≡ length a - length a % 64
+      → p ≡ zeroed (take (length a - f) (drop f a) ++ take k b) → g ≡ compress s (words p)
+      → r ≡ hashOver g (take (length b - k) (drop k b)) → r ≡ hashOver h (a ++ b)
+  block-more k {f} {p} {g} e le ef ep eg er =
+      let q : List ℕ = leftOf a ++ take k b in
+      let l : length q ≡ 64 =
+      length-append (leftOf a) (take k b) ∙ ap₂ (λ (x y : ℕ). x + y) length-left (length-take-le k b le) ∙ omega arith in
+      let i : f ≡ 64 * (length a / 64) = omega arith in
+      let t : p ≡ q = ep ∙ ap (λ (x : List ℕ). zeroed (x ++ take k b)) (from a f ∙ ap (λ (n : ℕ). drop n a) i) ∙ full q l in
+      let w : length q % 64 ≡ 0 = omega arith in
+      er
+      ∙ ap₂ hashOver (eg ∙ ap₂ (λ (x y : List ℕ). compress x (words y)) hashed t ∙ sym (one-block (hashOver h a) q l)) (from b k)
+      ∙ hash-on (hashOver h a) q (drop k b) w
+      ∙ ap (hashOver (hashOver h a)) (append-assoc (leftOf a) (take k b) (drop k b) ∙ ap (λ (x : List ℕ). leftOf a ++ x) (take-append-drop k b))
+      ∙ hash-front-on h a b
+
+-- ---- the bytes behind them
+
+-- how many these are
+pub left-over : (n m : ℕ) → (n % 64 + m % 64) % 64 ≡ (n + m) % 64
+left-over n m = omega arith
+
+begins-in-a : (n m r : ℕ) → r ≡ (n + m) % 64 → m ≤ r → 64 * ((n + m) / 64) ≡ n - (r - m)
+begins-in-a n m r e h = omega arith
+
+begins-in-b : (n m r : ℕ) → r ≡ (n + m) % 64 → r ≤ m → 64 * ((n + m) / 64) ≡ n + (m - r)
+begins-in-b n m r e h = omega arith
+
+in-both : (n m r k : ℕ) → r - k ≤ n → k ≤ m → k ≤ r → n - (n - (r - k)) + (m - (m - k)) ≡ r
+in-both n m r k a b c = omega arith
+
+-- r bytes are left, k of them in b and the others in a
+module _ (a b : List ℕ) (r k : ℕ) (rest : r ≡ (length a + length b) % 64) (some : k ≤ r) (within : k ≤ length b)
+    (all : k < length b → k ≡ r) where
+  pub reach : r - k ≤ length a
+  reach = by (decLt k (length b))
+    where
+      by : Dec (k < length b) → r - k ≤ length a
+      by (yes lt) = omega (arith, all lt)
+      by (no ge) = omega arith
+
+  pub left-both : leftOf (a ++ b) ≡ drop (length a - (r - k)) a ++ drop (length b - k) b
+  left-both = by (decLt k (length b))
+    where
+      by : Dec (k < length b) → leftOf (a ++ b) ≡ drop (length a - (r - k)) a ++ drop (length b - k) b
+      by (yes lt) =
+          let e : 64 * (length (a ++ b) / 64) ≡ length a + (length b - k) =
+          ap (λ (n : ℕ). 64 * (n / 64)) (length-append a b) ∙ begins-in-b (length a) (length b) r rest (omega (arith, all lt))
+          ∙ ap (λ (n : ℕ). length a + (length b - n)) (sym (all lt)) in
+          let z : _≡_ {A = List ℕ} (drop (length a - (r - k)) a) [] = drop-of-length-le a {i = length a - (r - k)} (omega (arith, all lt)) in
+          ap (λ (n : ℕ). drop n (a ++ b)) e ∙ drop-append-add a b (length b - k)
+          ∙ sym (ap (λ (x : List ℕ). x ++ drop (length b - k) b) z)
+      by (no ge) =
+          let m : length b ≡ k = omega arith in
+          let e : 64 * (length (a ++ b) / 64) ≡ length a - (r - k) =
+          ap (λ (n : ℕ). 64 * (n / 64)) (length-append a b) ∙ begins-in-a (length a) (length b) r rest (omega arith)
+          ∙ ap (λ (n : ℕ). length a - (r - n)) m in
+          let z : length b - k ≡ 0 = omega arith in
+          ap (λ (n : ℕ). drop n (a ++ b)) e ∙ drop-append-le (length a - (r - k)) a b (omega arith)
+          ∙ sym (ap (λ (n : ℕ). drop (length a - (r - k)) a ++ drop n b) z)
+
+  abbrev i : ℕ
+  i = length a - (r - k)
+
+  abbrev j : ℕ
+  j = length b - k
+
+  pub length-both : length (take (length a - i) (drop i a)) + length (take (length b - j) (drop j b)) ≡ (length a + length b) % 64
+  length-both =
+      ap₂ (λ (x y : ℕ). x + y) (ap length (from a i) ∙ length-drop i a) (ap length (from b j) ∙ length-drop j b)
+      ∙ in-both (length a) (length b) r k reach within some ∙ rest
+
+  pub ends-both : (h : List ℕ) (n : ℕ) {s d : List ℕ} → s ≡ hashOver h (a ++ b)
+      → d ≡ digestAfter s (take (length a - i) (drop i a) ++ take (length b - j) (drop j b)) n → d ≡ digestAfter h (a ++ b) n
+  ends-both h n {s} hashed e =
+      e ∙ ap₂ (λ (x y : List ℕ). digestAfter s (x ++ y) n) (from a i) (from b j)
+      ∙ ap₂ (λ (x y : List ℕ). digestAfter x y n) hashed (sym left-both) ∙ after-blocks h (a ++ b) n
 
 -- the count is taken modulo 2^64
-wrapped : (m : List ℕ) (n : ℕ) → n ≡ length m % 2 ^ 64 → digestAfter H0 m n ≡ sha256 m
+pub wrapped : (m : List ℕ) (n : ℕ) → n ≡ length m % 2 ^ 64 → digestAfter H0 m n ≡ sha256 m
 unfolding digestAfter
 wrapped m n e =
     ap (λ (x : List ℕ). bytes (hash H0 (m ++ x) (length (m ++ x) / 64))) (ap padding e ∙ padding-wrap (length m)) ∙ digest-law m
-
-module _ (a b : List ℕ) where
-  -- the bytes that a leaves
-  abbrev left : List ℕ
-  left = drop (length a - length a % 64) a
-
-  pub length-left : length left ≡ length a % 64
-  length-left = length-drop (length a - length a % 64) a ∙ omega arith
-
-  module _ {h : List ℕ} (hashed : h ≡ hash H0 a (length a / 64)) {n : ℕ} (count : n ≡ (length a + length b) % 2 ^ 64) where
-    met : digestAfter h (left ++ b) n ≡ sha256 (a ++ b)
-    met =
-        let e : length a - length a % 64 ≡ 64 * (length a / 64) = omega arith in
-        ap₂ (λ (x : List ℕ) (k : ℕ). digestAfter x (drop k a ++ b) n) hashed e
-        ∙ after-front H0 a b n
-        ∙ wrapped (a ++ b) n (count ∙ ap (λ (k : ℕ). k % 2 ^ 64) (sym (length-append a b)))
-
-    module _ {k : ℕ} (room : length a % 64 + k ≤ 64) (within : k ≤ length b) {s p q : List ℕ}
-        (src : s ≡ take (length a - (length a - length a % 64)) (drop (length a - length a % 64) a))
-        (copied : p ≡ take (length s) s ++ drop (length s) (replicate 64 0))
-        (put : q ≡ paste p (length a % 64) (take k b) (length (take k b))) where
-      -- the block: what a leaves, the first of b, and zeros
-      pub seam : q ≡ (left ++ take k b) ++ replicate (64 - (length a % 64 + k)) 0
-      seam =
-          let t : length (take k b) ≡ k = length-take-le k b within in
-          let e : s ≡ left = src ∙ from a (length a - length a % 64) in
-          let z : drop {A = ℕ} (length left) (replicate 64 0) ≡ replicate (64 - length a % 64) 0 =
-          ap (λ (x : ℕ). drop {A = ℕ} x (replicate 64 0)) length-left ∙ drop-zeros 64 (length a % 64) (omega arith) in
-          let f : p ≡ left ++ replicate (64 - length a % 64) 0 =
-          copied ∙ ap (λ (x : List ℕ). take (length x) x ++ drop (length x) (replicate 64 0)) e
-          ∙ ap₂ (λ (x y : List ℕ). x ++ y) (take-length left) z in
-          put ∙ ap (λ (x : List ℕ). paste x (length a % 64) (take k b) (length (take k b))) f
-          ∙ put-law left (take k b) (length a % 64) length-left (omega arith)
-          ∙ ap (λ (x : ℕ). (left ++ take k b) ++ replicate (64 - (length a % 64 + x)) 0) t
-
-      length-joined : length (left ++ take k b) ≡ length a % 64 + k
-      length-joined = length-append left (take k b) ∙ ap₂ (λ (x y : ℕ). x + y) length-left (length-take-le k b within)
-
-      -- all of b is in the block
-      pub short-law : {d : List ℕ} → k ≡ length b → d ≡ digestAfter h (take (length a % 64 + k) q) n → d ≡ sha256 (a ++ b)
-      short-law all e =
-          let f : take (length a % 64 + k) q ≡ left ++ b =
-          ap (take (length a % 64 + k)) seam
-          ∙ take-at (left ++ take k b) (replicate (64 - (length a % 64 + k)) 0) (length a % 64 + k) length-joined
-          ∙ ap (λ (x : List ℕ). left ++ x) (take-all k b (omega arith)) in
-          e ∙ ap (λ (x : List ℕ). digestAfter h x n) f ∙ met
-
-      -- the block is full
-      pub full-law : {d g : List ℕ} → length a % 64 + k ≡ 64 → g ≡ compress h (words q)
-          → d ≡ digestAfter g (take (length b - k) (drop k b)) n → d ≡ sha256 (a ++ b)
-      full-law full eg e =
-          let z : 64 - (length a % 64 + k) ≡ 0 = omega arith in
-          let f : q ≡ left ++ take k b =
-          seam ∙ ap (λ (x : ℕ). (left ++ take k b) ++ replicate x 0) z ∙ append-nil (left ++ take k b) in
-          e
-          ∙ ap₂ (λ (x y : List ℕ). digestAfter x y n) (eg ∙ ap (λ (x : List ℕ). compress h (words x)) f) (from b k)
-          ∙ after-block h (left ++ take k b) (drop k b) n (length-joined ∙ full)
-          ∙ ap (λ (x : List ℕ). digestAfter h x n) (append-assoc left (take k b) (drop k b) ∙ ap (λ (x : List ℕ). left ++ x) (take-append-drop k b))
-          ∙ met

@@ -6,13 +6,24 @@ use lib.ListN.{length, take, drop, replicate}
 use Rattle.digest_sha256.specs.declared.Hasher.{Hasher}
 use Rattle.digest_fips180.specs.Sha256.{H0, padding, hash, bytes}
 
+-- 6.2.2 in part: the hash value after the whole blocks of b, from h on; and the bytes of b behind them.
+abbrev pub hashOver : List ℕ → List ℕ → List ℕ
+hashOver h b = hash h b (length b / 64)
+
+abbrev pub leftOf : List ℕ → List ℕ
+leftOf b = drop (64 * (length b / 64)) b
+
+-- The bytes b, and zeros behind them up to 64.
+abbrev pub zeroed : List ℕ → List ℕ
+zeroed b = b ++ replicate (64 - length b) 0
+
 -- 6.2.2 in part: the state that takes the hash value h over the whole blocks of b, keeps the bytes after them, with zeros up to 64, and
 -- has counted n bytes.
 unfoldable pub settle : List ℕ → List ℕ → ℕ → Hasher
 settle h b n =
     record {
-      words = hash h b (length b / 64);
-      pending = drop (64 * (length b / 64)) b ++ replicate (64 - length b % 64) 0;
+      words = hashOver h b;
+      pending = leftOf b ++ replicate (64 - length b % 64) 0;
       count = n % 2 ^ 64;
     }
 
@@ -45,4 +56,4 @@ finishOf d = bytes (absorbOf d (padding (d .count)) .words)
 -- 5.1.1 and 6.2.2: the digest of a message of n bytes whose whole blocks give the hash value h, and leave the bytes b: these are padded
 -- and hashed.
 unfoldable pub digestAfter : List ℕ → List ℕ → ℕ → List ℕ
-digestAfter h b n = bytes (hash h (b ++ padding n) (length (b ++ padding n) / 64))
+digestAfter h b n = bytes (hashOver h (b ++ padding n))

@@ -116,16 +116,25 @@ fn digest_pending(h: [u32; 8], pending: [u8; 64], count: u64) -> [u8; 32]
     digest_from(h, &pending[..fill], count)
 }
 
-// The digest of a message of `count` bytes, of the hash value after its whole blocks and the bytes that are left. The padding of
-// 5.1.1 ends their block, or takes one block more.
-fn digest_after(h: [u32; 8], rest: &[u8], count: u64) -> [u8; 32]
-    requires { ⌜ length (now rest) ≡ count % 64 ⌝ }
-    ensures { λ r. ⌜ r ≡ parts.digestAfter h (now (rest .entry)) count ⌝ }
+// Lays x, and y behind it, into the block p, which is all 0.
+fn lay_two(p: &mut [u8], x: &[u8], y: &[u8])
+    requires { ⌜ (now p ≡ replicate 64 0) × (length (now x) + length (now y) ≤ 64) ⌝ }
+    ensures { λ r. ⌜ now (p .exit) ≡ parts.zeroed (now (x .entry) ++ now (y .entry)) ⌝ }
 {
-    let n = rest.len();
+    bytes::copy(x, p);
+    digest_bytes::put_over(p, x.len(), y);
+}
+
+// The digest of a message of `count` bytes, of the hash value after its whole blocks and the bytes that are left, which lie in two
+// places, x and then y. The padding of 5.1.1 ends their block, or takes one block more.
+fn digest_after(h: [u32; 8], x: &[u8], y: &[u8], count: u64) -> [u8; 32]
+    requires { ⌜ length (now x) + length (now y) ≡ count % 64 ⌝ }
+    ensures { λ r. ⌜ r ≡ parts.digestAfter h (now (x .entry) ++ now (y .entry)) count ⌝ }
+{
+    let n = x.len() + y.len();
     let bits = count << 3;
     let mut b = [0u8; 64];
-    bytes::copy(rest, &mut b);
+    lay_two(&mut b, x, y);
     b[n] = 0x80;
     if n < 56 {
         digest_bytes::put_length(&mut b, bits);
@@ -138,13 +147,18 @@ fn digest_after(h: [u32; 8], rest: &[u8], count: u64) -> [u8; 32]
 }
 
 // The digest of a message of `count` bytes, of the hash value after its first blocks and the bytes behind them.
-pub fn digest_from(h: [u32; 8], rest: &[u8], count: u64) -> [u8; 32]
+fn digest_from(h: [u32; 8], rest: &[u8], count: u64) -> [u8; 32]
     requires { ⌜ length (now rest) % 64 ≡ count % 64 ⌝ }
     ensures { λ r. ⌜ r ≡ parts.digestAfter h (now (rest .entry)) count ⌝ }
 {
     let n = rest.len();
     let from = n - n % 64;
-    digest_after(digest_block::hash_blocks(h, rest), &rest[from..], count)
+    digest_after(
+        digest_block::hash_blocks(h, rest),
+        &rest[from..],
+        &rest[..0],
+        count,
+    )
 }
 
 // The digest of a message that lies in one place.
@@ -154,23 +168,41 @@ pub fn digest(message: &[u8]) -> [u8; 32]
     digest_from(H0, message, message.len() as u64)
 }
 
-// The digest of a message that lies in two places, a and then b. The block where they meet is put together; the others are
-// compressed where they lie.
-pub fn digest_of_two(a: &[u8], b: &[u8]) -> [u8; 32]
-    ensures { λ r. ⌜ r ≡ fips.sha256 (now (a .entry) ++ now (b .entry)) ⌝ }
+// ---- a message in two places
+
+// The hash value after the whole blocks of a message that lies in two places, a and then b, from h on. The block where they meet is put
+// together; the others are compressed where they lie.
+pub fn hash_of_two(h: [u32; 8], a: &[u8], b: &[u8]) -> [u32; 8]
+    ensures { λ r. ⌜ r ≡ parts.hashOver h (now (a .entry) ++ now (b .entry)) ⌝ }
 {
     let n = a.len();
     let fill = n % 64;
-    let from = n - fill;
-    let k = least(64 - fill, b.len());
-    let count = std::num::wrapping_add_u64(n as u64, b.len() as u64);
-    let h = digest_block::hash_blocks(H0, a);
-    let mut p = [0u8; 64];
-    bytes::copy(&a[from..], &mut p);
-    digest_bytes::put_over(&mut p, fill, &b[..k]);
-    let m = fill + k;
-    if m < 64 {
-        return digest_from(h, &p[..m], count);
+    let k = 64 - fill;
+    let s = digest_block::hash_blocks(h, a);
+    if b.len() < k {
+        return s;
     }
-    digest_from(digest_block::compress_block(h, &p), &b[k..], count)
+    let mut p = [0u8; 64];
+    lay_two(&mut p, &a[n - fill..], &b[..k]);
+    digest_block::hash_blocks(digest_block::compress_block(s, &p), &b[k..])
+}
+
+// The digest of a message of `count` bytes, of the hash value after its first blocks and the bytes behind them, which lie in two places.
+pub fn digest_from_two(h: [u32; 8], a: &[u8], b: &[u8], count: u64) -> [u8; 32]
+    requires { ⌜ (length (now a) + length (now b)) % 64 ≡ count % 64 ⌝ }
+    ensures { λ r. ⌜ r ≡ parts.digestAfter h (now (a .entry) ++ now (b .entry)) count ⌝ }
+{
+    let n = a.len();
+    let m = b.len();
+    let r = (n % 64 + m % 64) % 64;
+    let k = least(r, m);
+    digest_after(hash_of_two(h, a, b), &a[n - (r - k)..], &b[m - k..], count)
+}
+
+// The digest of a message that lies in two places, a and then b.
+pub fn digest_of_two(a: &[u8], b: &[u8]) -> [u8; 32]
+    ensures { λ r. ⌜ r ≡ fips.sha256 (now (a .entry) ++ now (b .entry)) ⌝ }
+{
+    let count = std::num::wrapping_add_u64(a.len() as u64, b.len() as u64);
+    digest_from_two(H0, a, b, count)
 }

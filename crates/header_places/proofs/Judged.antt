@@ -2,11 +2,9 @@
 use mathlib.Core.Path.{_≡_, refl, sym, ap, _∙_}
 use Prim.Native.Nat.{ℕ, suc, _+_, _<_, _≤_}
 use mathlib.Core.List.{List, [], _∷_}
-use native.Mathlib.Omega.{arith}
 use native.Mathlib.Numerals.{add-one}
-use native.Mathlib.Decide.{ℕ-discrete}
 use lib.ListN.{length, getD, drop, take, set, replicate, drop-of-length-le}
-use lib.Seq.{drop-cons, getD-set-same, getD-set-other}
+use lib.Seq.{drop-cons}
 use borrow.Author.Tests.{lt-ltb, le-ltb, eq-eqb, ne-eqb}
 use Rattle.numbers.specs.Answer.{Answer, gives, refused}
 use Rattle.header_tags.specs.Walk.{Item, itemOf, nextItem, onItem, tagsAt}
@@ -14,7 +12,7 @@ use Rattle.header_tags.specs.declared.Tag.{Tag}
 use Rattle.header_tags.specs.declared.Tag.the-variants.{Found, End, TooShort, DoesNotFit, NoEnd}
 use Rattle.header_tags.proofs.Laws.{tags-step, next-within}
 use Rattle.header_places.specs.Table.{TagTable}
-use Rattle.header_places.specs.Judging.{rowOf, judge, placesIn, TagsFit}
+use Rattle.header_places.specs.Judging.{rowOf, judge, placesIn}
 use Rattle.header_places.proofs.RuledOut.{other-tag, length-tag, repeated-tag, taken-tag}
 
 module _ (l : List ℕ) (x i : ℕ) where
@@ -88,12 +86,3 @@ module _ {T : TagTable} {seen h : List ℕ} {at : ℕ} {O : Answer (List ℕ)} {
   pub no-end : {p : ℕ} → t ≡ NoEnd p → refused 7 p ≡ O
   unfolding judge
   no-end e = first inv g e
-
--- a place that fits, put into its row
-pub within-set : {T : TagTable} {l : List ℕ} {n : ℕ} (r q s : ℕ) → TagsFit T l n → length l ≡ length (T .types) → r < length (T .types)
-    → s ≡ getD (T .lengths) r 0 → q + 4 + s ≤ n → TagsFit T (set l r q) n
-within-set {T} {l} {n} r q s w rows below same fits = record { fits = λ i lt. go i lt (ℕ-discrete i r) }
-  where
-    go : (i : ℕ) → i < length (T .types) → Dec (i ≡ r) → getD (set l r q) i 0 + 4 + getD (T .lengths) i 0 ≤ n
-    go i lt (yes e) = rw (e, getD-set-same l r q 0 (omega arith)) (omega arith)
-    go i lt (no e) = rw (getD-set-other l r i q 0 e) (w .fits i lt)

@@ -3,12 +3,12 @@ use mathlib.Core.Path.{_≡_, refl, sym, ap, _∙_}
 use mathlib.Core.Logic.{_≢_}
 use Prim.Native.Nat.{ℕ, zero, suc, _+_, _-_, _<_, _≤_}
 use mathlib.Core.List.{List, [], _∷_}
-use mathlib.Core.Bool.{Bool, true, false, cond}
+use mathlib.Core.Bool.{Bool, true, false, cond, true≢false}
 use native.Mathlib.Omega.{arith}
 use lib.ListN.{length, getD, take, set, replicate}
 use lib.Seq.{length-take-le, getD-take}
 use lib.Dec.{ltb, eqb}
-use borrow.Author.Tests.{lt-ltb, le-ltb, eq-eqb, ne-eqb, ltb-true}
+use borrow.Author.Tests.{lt-ltb, le-ltb, eq-eqb, ne-eqb, ltb-true, eqb-true}
 use Rattle.numbers.specs.Answer.{Answer, gives, refused}
 use Rattle.header_tags.specs.Walk.{Item, tag, end, nextItem, Tags, ended, broken, more, onItem, tagsFrom, tagsAt}
 use Rattle.header_tags.specs.Padding.{WalkNumber, doesNotFit, noEnd}
@@ -19,7 +19,7 @@ use Rattle.header_places.specs.RuledOut.{InRow, TagJudged, TagsAreJudged
 
 -- ---- the row of a type
 
-row-is : (l : List ℕ) (t r : ℕ) → r < length l → getD l r 0 ≡ t → ((i : ℕ) → i < r → getD l i 0 ≢ t) → rowOf l t ≡ r
+pub row-is : (l : List ℕ) (t r : ℕ) → r < length l → getD l r 0 ≡ t → ((i : ℕ) → i < r → getD l i 0 ≢ t) → rowOf l t ≡ r
 unfolding rowOf
 row-is [] t r a b f = absurd (omega arith)
 row-is (y ∷ l) t zero a b f = rw (rowOf, eq-eqb y t b)
@@ -30,6 +30,30 @@ unfolding rowOf
 row-none [] t f = omega arith
 row-none (y ∷ l) t f =
     rw (rowOf, ne-eqb y t (f 0 (omega arith))) (let w = row-none l t (λ i lt. f (suc i) (omega arith)) in omega arith)
+
+-- a type's row has the type
+pub row-type : (l : List ℕ) (t : ℕ) → rowOf l t < length l → getD l (rowOf l t) 0 ≡ t
+unfolding rowOf
+row-type [] t a = absurd (omega arith)
+row-type (y ∷ l) t a = go (λ b. row-type l t b) (eqb y t) refl a
+  where
+    go : (rowOf l t < length l → getD l (rowOf l t) 0 ≡ t) → (b : Bool) → eqb y t ≡ b
+        → (elim b as (λ (_ : Bool). ℕ) [ true ↦ 0 | false ↦ suc (rowOf l t) ]) < suc (length l)
+        → getD (y ∷ l) (elim b as (λ (_ : Bool). ℕ) [ true ↦ 0 | false ↦ suc (rowOf l t) ]) 0 ≡ t
+    go ih true x a = eqb-true y t x
+    go ih false x a = ih (omega arith)
+
+-- where a type has no row, no entry is the type
+pub row-all : (l : List ℕ) (t : ℕ) → length l ≤ rowOf l t → (r : ℕ) → r < length l → getD l r 0 ≢ t
+unfolding rowOf
+row-all [] t a r b e = absurd (omega arith)
+row-all (y ∷ l) t a r b e = go (λ c i d. row-all l t c i d) (eqb y t) refl a r b e
+  where
+    go : (length l ≤ rowOf l t → (i : ℕ) → i < length l → getD l i 0 ≢ t) → (z : Bool) → eqb y t ≡ z
+        → suc (length l) ≤ (elim z as (λ (_ : Bool). ℕ) [ true ↦ 0 | false ↦ suc (rowOf l t) ]) → (i : ℕ) → i < suc (length l) → getD (y ∷ l) i 0 ≢ t
+    go ih true x a i b e = absurd (omega arith)
+    go ih false x a zero b e = absurd (true≢false (sym (eq-eqb y t e) ∙ x))
+    go ih false x a (suc i) b e = ih (omega arith) i (omega arith) e
 
 -- ---- a tag, judged
 

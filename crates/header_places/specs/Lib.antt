@@ -2,3 +2,4 @@
 pub mod Table
 pub mod Judging
 pub mod RuledOut
+pub mod Before

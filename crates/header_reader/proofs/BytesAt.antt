@@ -1,12 +1,15 @@
 -- Parts of a list of bytes, and numbers in them. Assumes nothing.
 use mathlib.Core.Path.{_≡_, refl, sym, ap, _∙_}
-use Prim.Native.Nat.{ℕ, zero, suc, _+_, _-_, _*_, _≤_, _<_}
+use Prim.Native.Nat.{ℕ, zero, suc, _+_, _-_, _*_, _^_, _≤_, _<_}
 use mathlib.Core.List.{List, [], _∷_, _++_, append-nil}
 use native.Mathlib.Omega.{arith}
+use native.Mathlib.Nat.{pow-suc}
+use native.Mathlib.Decide.{decLt}
+use lib.Dec.{lit<}
 use native.Mathlib.Numerals.{add-one}
-use lib.ListN.{length, getD, take, drop, length-drop, replicate, length-replicate, drop-of-length-le}
-use lib.Seq.{take-length, drop-cons, length-take-le, take-all, take-add, drop-drop}
-use Rattle.header_tags.specs.Bytes.{number}
+use lib.ListN.{length, getD, take, drop, length-take, length-drop, replicate, length-replicate, drop-of-length-le, List·getD-eq-default}
+use lib.Seq.{take-length, drop-cons, length-take-le, take-all, take-add, drop-drop, getD-take, getD-drop}
+use Rattle.header_tags.specs.Bytes.{AllBytes, number}
 use Rattle.header_reader.specs.Reading.{bytesAt}
 
 module _ (h : List ℕ) where
@@ -52,3 +55,23 @@ module _ (h : List ℕ) where
       let f : y ≡ take (length (bytesAt h p n)) (bytesAt h p n) ++ drop (length (bytesAt h p n)) (replicate n 0) = rw k at e in
       let none : _≡_ {A = List ℕ} (drop (length (bytesAt h p n)) (replicate n 0)) [] = drop-of-length-le (replicate n 0) {i = length (bytesAt h p n)} (omega (arith, length-part p n fits, length-replicate {A = ℕ} n 0)) in
       f ∙ ap (λ (l : List ℕ). take (length (bytesAt h p n)) (bytesAt h p n) ++ l) none ∙ append-nil _ ∙ take-length (bytesAt h p n)
+
+-- n bytes are a number that fits n bytes
+number-below : (l : List ℕ) → AllBytes l → number l < 256 ^ length l
+number-below [] h = omega arith
+number-below (b ∷ l) h =
+    let e : 256 ^ suc (length l) ≡ 256 ^ length l * 256 = pow-suc 256 (length l) in
+    omega (arith, number-below l (λ i. h (suc i)), h 0)
+
+module _ (h : List ℕ) (bytes : AllBytes h) (p n : ℕ) where
+  pub part-bytes : (i : ℕ) → getD (bytesAt h p n) i 0 < 256
+  part-bytes i = go (decLt i n)
+    where
+      go : Dec (i < n) → getD (bytesAt h p n) i 0 < 256
+      go (yes lt) = rw (getD-take n (drop p h) i 0 lt, getD-drop p h i 0) (bytes (p + i))
+      go (no ge) = rw (List·getD-eq-default (bytesAt h p n) 0 {n = i} (omega (arith, length-take n (drop p h)))) (lit< tt)
+
+  pub part-below : p + n ≤ length h → number (bytesAt h p n) < 256 ^ n
+  part-below fits =
+      let l : length (bytesAt h p n) ≡ n = length-take-le n (drop p h) (omega (arith, length-drop p h)) in
+      rw l at (number-below (bytesAt h p n) part-bytes)

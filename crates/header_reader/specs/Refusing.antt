@@ -5,6 +5,7 @@ use mathlib.Core.List.{List}
 use mathlib.Core.Logic.{_↔_}
 use lib.ListN.{length, getD, take}
 use Rattle.numbers.specs.Answer.{refused, gives, then}
+use Rattle.header_tags.specs.Bytes.{AllBytes}
 use Rattle.header_places.specs.Table.{documentTable}
 use Rattle.header_places.specs.Judging.{placesIn}
 use Rattle.header_reader.specs.Reading.{valuesAt, readHeader}
@@ -25,6 +26,6 @@ pub record ReaderRefuses (s : List ℕ) : Type 0 where
   pub walk : 256 ≤ length s → HasMagic s → (HasSizeZero s → ⊥)
       → readHeader s ≡ then (placesIn documentTable (take 256 s)) (λ places. gives (valuesAt (take 256 s) places))
 
--- Each entry of a lent buffer is a byte.
+-- Of every lent buffer: each of its entries is a byte.
 abbrev pub WhenReaderRefuses : Type 0
-WhenReaderRefuses = (s : List ℕ) → ((i : ℕ) → getD s i 0 < 256) → ReaderRefuses s
+WhenReaderRefuses = (s : List ℕ) → AllBytes s → ReaderRefuses s

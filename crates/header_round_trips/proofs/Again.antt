@@ -9,18 +9,17 @@ use lib.ListN.{length, getD, take, replicate, length-take, List·getD-eq-default
 use lib.Seq.{length-take-le, getD-take}
 use lib.Dec.{eqb, lit<}
 use Rattle.numbers.specs.Answer.{Answer, gives, refused, then}
-use Rattle.header_tags.specs.Bytes.{number}
+use Rattle.header_tags.specs.Bytes.{AllBytes, number}
 use Rattle.header_tags.proofs.Laws.{refused-gives}
 use Rattle.header_places.specs.Table.{documentTable}
 use Rattle.header_places.specs.Judging.{placesIn}
 use Rattle.header_places.proofs.Fitting.{found-within}
 use Rattle.header_reader.specs.declared.Header.{Header}
 use Rattle.header_reader.specs.Reading.{bytesAt, tagPlaces, valuesAt, readHeader}
-use Rattle.header_reader.proofs.BytesAt.{length-part}
+use Rattle.header_reader.proofs.BytesAt.{length-part, part-below}
 use Rattle.header_reader.proofs.Answers.{located}
 use Rattle.header_writer.specs.Writing.{writeHeader}
-use Rattle.header_round_trips.specs.RoundTrips.{Holdable, carriedHint, carried, Bytes, RoundTrip, ReadIsHoldable, ReadWriteRead}
-use Rattle.header_round_trips.proofs.Numbers.{part-below}
+use Rattle.header_round_trips.specs.RoundTrips.{Holdable, carriedHint, carried, RoundTrip, ReadIsHoldable, ReadWriteRead}
 use Rattle.header_round_trips.proofs.Back.{write-then-read}
 
 -- what an accepted header tells
@@ -50,7 +49,7 @@ hint-carried : (b : Bool) (x : List ℕ) → carriedHint (not b) (cond b (replic
 hint-carried true x = refl
 hint-carried false x = refl
 
-module _ (s : List ℕ) (bytes : Bytes s) where
+module _ (s : List ℕ) (bytes : AllBytes s) where
   abbrev h : List ℕ
   h = take 256 s
 

@@ -15,7 +15,7 @@ use Rattle.header_tags.proofs.Found.{tagsOf, Writable, AllWritable, none, one, 
 use Rattle.header_places.specs.Table.{documentTable}
 use Rattle.header_places.specs.Judging.{judge, rowOf, placesIn}
 use Rattle.header_reader.specs.declared.Header.{Header}
-use Rattle.header_reader.specs.Reading.{magic, bytesAt, value, valuesAt, readHeader}
+use Rattle.header_reader.specs.Reading.{magic, bytesAt, value, tagPlaces, valuesAt, readHeader}
 use Rattle.header_reader.proofs.Answers.{by-tags, by-places}
 use Rattle.header_writer.specs.Writing.{front, requiredFields, hintFields, ending, headerBytes, Write, write, writeHeader}
 use Rattle.header_writer.proofs.Putting.{length-required, length-hint, length-header}
@@ -160,16 +160,22 @@ module _ (v : Header) (f : Holdable v) where
       hinted true = refl
       hinted false = refl
 
--- what is written reads back, whatever stands behind it
+-- the tags of what is written are found at their places, whatever stands behind it
+pub places-read : (v : Header) → Holdable v → (rest : List ℕ) → tagPlaces (headerBytes v ++ rest) ≡ gives (written (v .«has_hint»))
+places-read v f rest =
+    let w : List ℕ = headerBytes v in
+    let same : take 256 (w ++ rest) ≡ w = take-at w rest 256 (header-length v f) in
+    let room : 256 ≤ length (w ++ rest) = omega (arith, length-append w rest, header-length v f) in
+    by-tags (w ++ rest) room (rw same (magic-written v f)) refl (rw same (size-written v f)) (f .some)
+    ∙ ap (placesIn documentTable) same ∙ places-written v f
+
+-- and its values read back
 pub header-read : (v : Header) → Holdable v → (rest : List ℕ) → readHeader (headerBytes v ++ rest) ≡ gives (carried v)
 header-read v f rest =
     let w : List ℕ = headerBytes v in
     let same : take 256 (w ++ rest) ≡ w = take-at w rest 256 (header-length v f) in
-    let room : 256 ≤ length (w ++ rest) = omega (arith, length-append w rest, header-length v f) in
-    by-places (w ++ rest) (by-tags (w ++ rest) room (rw same (magic-written v f)) refl (rw same (size-written v f)) (f .some))
-    ∙ ap (λ (l : List ℕ). then (placesIn documentTable l) (λ x. gives (valuesAt l x))) same
-    ∙ ap (λ (a : Answer (List ℕ)). then a (λ x. gives (valuesAt w x))) (places-written v f)
-    ∙ ap (λ (l : List ℕ). gives (valuesAt l (written (v .«has_hint»)))) (header-laid v f)
+    by-places (w ++ rest) (places-read v f rest)
+    ∙ ap (λ (l : List ℕ). gives (valuesAt l (written (v .«has_hint»)))) (same ∙ header-laid v f)
     ∙ ap gives (values-written v f)
 
 -- the header in front of what stood behind it

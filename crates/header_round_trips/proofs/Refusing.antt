@@ -1,21 +1,20 @@
 -- When the writer refuses, and that the premises can be met. Assumes nothing.
 use mathlib.Core.Path.{_≡_, refl, sym, ap, _∙_}
-use Prim.Native.Nat.{ℕ, zero, suc, _≤_, _<_}
-use mathlib.Core.List.{List, [], _∷_, _++_, append-nil}
-use mathlib.Core.Bool.{Bool, true, false, _&&_}
+use Prim.Native.Nat.{ℕ, _≤_, _<_}
+use mathlib.Core.List.{List, [], _++_, append-nil}
+use mathlib.Core.Bool.{Bool, true, false}
 use native.Mathlib.Omega.{arith}
 use native.Mathlib.Decide.{decLt, ℕ-discrete}
-use lib.ListN.{length, getD, drop}
-use lib.Dec.{ltb, lit<}
-use borrow.Author.Tests.{ltb-true}
-use Rattle.numbers.proofs.Tests.{both}
+use lib.ListN.{length, drop}
+use lib.Dec.{lit<}
 use Rattle.numbers.specs.Answer.{Answer, gives, refused}
 use Rattle.header_tags.specs.Bytes.{fieldBytes}
+use Rattle.header_tags.proofs.Tested.{byteTest, tested-bytes}
 use Rattle.header_reader.specs.declared.Header.{Header}
 use Rattle.header_reader.specs.Reading.{readHeader}
 use Rattle.header_writer.specs.Writing.{headerBytes, Write, write, writeHeader}
 use Rattle.header_writer.proofs.Putting.{too-short, zero-size, written}
-use Rattle.header_round_trips.specs.RoundTrips.{Holdable, Bytes, WriterRefuses, WhenWriterRefuses, example, Met, PremisesMet}
+use Rattle.header_round_trips.specs.RoundTrips.{Holdable, WriterRefuses, WhenWriterRefuses, example, Met, PremisesMet}
 use Rattle.header_round_trips.proofs.Back.{header-read}
 
 -- the number of an answer, 0 where it is none
@@ -67,16 +66,6 @@ when-writer-refuses v out = go (decLt (length out) 256) (ℕ-discrete (v .size) 
     go (no ge) (yes z) = by-zero v out (omega arith) z
     go (no ge) (no s) = by-some v out (omega arith) s
 
--- bytes, by a test of each
-abbrev allBytes : List ℕ → Bool
-allBytes [] = true
-allBytes (b ∷ l) = ltb b 256 && allBytes l
-
-all-bytes : (l : List ℕ) → allBytes l ≡ true → Bytes l
-all-bytes [] e i = lit< tt
-all-bytes (b ∷ l) e zero = ltb-true b 256 (both (ltb b 256) (allBytes l) e .0)
-all-bytes (b ∷ l) e (suc i) = all-bytes l (both (ltb b 256) (allBytes l) e .1) i
-
 example-holdable : (hint : Bool) → Holdable (example hint)
 example-holdable hint =
     record {
@@ -90,7 +79,7 @@ example-holdable hint =
       hint = refl;
     }
 
-example-bytes : (hint : Bool) → allBytes (headerBytes (example hint)) ≡ true
+example-bytes : (hint : Bool) → byteTest (headerBytes (example hint)) ≡ true
 unfolding headerBytes fieldBytes
 example-bytes true = refl
 example-bytes false = refl
@@ -103,6 +92,6 @@ pub premises-met : PremisesMet
 premises-met hint =
     record {
       holdable = example-holdable hint;
-      bytes = all-bytes (headerBytes (example hint)) (example-bytes hint);
+      bytes = tested-bytes (headerBytes (example hint)) (example-bytes hint);
       accepted = example-carried hint;
     }

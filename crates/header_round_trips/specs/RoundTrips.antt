@@ -7,6 +7,7 @@ use mathlib.Core.Bool.{Bool, true, false}
 use mathlib.Core.Logic.{_↔_}
 use lib.ListN.{length, getD, take, drop, replicate}
 use Rattle.numbers.specs.Answer.{gives, refused}
+use Rattle.header_tags.specs.Bytes.{AllBytes}
 use Rattle.header_reader.specs.declared.Header.{Header}
 use Rattle.header_reader.specs.Reading.{readHeader}
 use Rattle.header_writer.specs.Writing.{headerBytes, Write, write, writeHeader}
@@ -57,19 +58,15 @@ pub record RoundTrip (w : Write) (out : List ℕ) (v u : Header) : Type 0 where
 abbrev pub WriteThenRead : Type 0
 WriteThenRead = (v : Header) → Holdable v → (out : List ℕ) → 256 ≤ length out → RoundTrip (writeHeader v out) out v (carried v)
 
--- Each entry is a byte.
-abbrev pub Bytes : List ℕ → Type 0
-Bytes s = (i : ℕ) → getD s i 0 < 256
-
 -- What was read, once it is written, reads the same: of every buffer of bytes that the reader accepts, in every output that has room.
 abbrev pub ReadWriteRead : Type 0
 ReadWriteRead =
-    (s : List ℕ) → Bytes s → (v : Header) → readHeader s ≡ gives v
+    (s : List ℕ) → AllBytes s → (v : Header) → readHeader s ≡ gives v
     → (out : List ℕ) → 256 ≤ length out → RoundTrip (writeHeader v out) out v v
 
 -- What the reader gives can be held: so the writer takes every header that the reader gave.
 abbrev pub ReadIsHoldable : Type 0
-ReadIsHoldable = (s : List ℕ) → Bytes s → (v : Header) → readHeader s ≡ gives v → Holdable v
+ReadIsHoldable = (s : List ℕ) → AllBytes s → (v : Header) → readHeader s ≡ gives v → Holdable v
 
 -- When the writer refuses, and that a refusal changes no byte. Of every header and every output: 16 exactly if the output is
 -- shorter than a header; else 3 exactly if the size is 0; else the header is taken. Both refusals leave the output as it was.
@@ -102,7 +99,7 @@ example hint =
 -- It can be held, and what is written of it is a buffer of bytes that the reader accepts.
 pub record Met (v : Header) : Type 0 where
   pub holdable : Holdable v
-  pub bytes : Bytes (headerBytes v)
+  pub bytes : AllBytes (headerBytes v)
   pub accepted : readHeader (headerBytes v) ≡ gives v
 
 abbrev pub PremisesMet : Type 0

@@ -1,14 +1,15 @@
 -- What the walk finds in each case, from facts on the bytes. Assumes nothing.
-use mathlib.Core.Path.{_≡_, refl, sym, ap, _∙_}
+use mathlib.Core.Path.{_≡_, refl, sym, ap, subst, _∙_}
 use Prim.Native.Nat.{ℕ, zero, suc, _+_, _-_, _<_, _≤_}
 use mathlib.Core.List.{List}
 use mathlib.Core.Bool.{Bool, true, false, cond}
 use lib.Dec.{ltb, eqb}
 use native.Mathlib.Omega.{arith}
 use lib.ListN.{length, getD, take, length-take}
-use borrow.Author.Tests.{ltb-false, lt-ltb, le-ltb, eq-eqb, ne-eqb}
+use borrow.Author.Tests.{ltb-false, eqb-false, lt-ltb, le-ltb, eq-eqb, ne-eqb}
 use Rattle.numbers.specs.Answer.{Answer, gives, refused}
 use Rattle.header_tags.specs.Walk.{typeAt, lengthAt, Item, tag, end, itemAt, itemFrom, nextItem, walkAt, Tags, more, onItem, tagsFrom, tagsAt}
+use Rattle.header_tags.specs.Standing.{TagStands}
 
 module _ (h : List ℕ) (p : ℕ) where
   pub next-padding : p < length h → getD h p 0 ≡ 255 → nextItem h (p + 1) ≡ nextItem h p
@@ -55,40 +56,48 @@ refused-gives e = let z : _≡_ {A = ℕ} 0 1 = cc in absurd (omega arith)
 end-tag : {A : Type 0} {q t n : ℕ} → _≡_ {A = Answer Item} (gives end) (gives (tag q t n)) → A
 end-tag e = let z : _≡_ {A = ℕ} 0 1 = cc in absurd (omega arith)
 
--- a tag that is found at p lies within the header
-within : (L p T N : ℕ) {q t n : ℕ} (b₁ b₂ b₃ b₄ : Bool) → ltb (L - p) 4 ≡ b₃ → ltb (L - p - 4) N ≡ b₄
-    → cond b₁ (refused 4 p) (cond b₂ (gives end) (cond b₃ (refused 4 p) (cond b₄ (refused 4 p) (gives (tag p T N))))) ≡ gives (tag q t n)
-    → (p ≤ q) × (q + 4 + n ≤ L)
-within L p T N true b₂ b₃ b₄ x y e = refused-gives e
-within L p T N false true b₃ b₄ x y e = end-tag e
-within L p T N false false true b₄ x y e = refused-gives e
-within L p T N false false false true x y e = refused-gives e
-within L p T N {q} {t} {n} false false false false x y e =
-    let i : p ≡ q = cc in
-    let j : N ≡ n = cc in
-    omega (arith, ltb-false (L - p) 4 x, ltb-false (L - p - 4) N y)
+-- a tag that is found at p stands there
+stands : (h : List ℕ) (p : ℕ) {q t n : ℕ} (b₁ b₂ b₃ b₄ : Bool) → eqb (typeAt h p) 0 ≡ b₂ → ltb (length h - p) 4 ≡ b₃
+    → ltb (length h - p - 4) (lengthAt h p) ≡ b₄
+    → cond b₁ (refused 4 p) (cond b₂ (gives end) (cond b₃ (refused 4 p) (cond b₄ (refused 4 p) (gives (tag p (typeAt h p) (lengthAt h p))))))
+    ≡ gives (tag q t n)
+    → (p ≡ q) × TagStands h p t n
+stands h p true b₂ b₃ b₄ x y z e = refused-gives e
+stands h p false true b₃ b₄ x y z e = end-tag e
+stands h p false false true b₄ x y z e = refused-gives e
+stands h p false false false true x y z e = refused-gives e
+stands h p {q} {t} {n} false false false false x y z e =
+    let i : typeAt h p ≡ t = cc in
+    let j : lengthAt h p ≡ n = cc in (
+      cc,
+      record {
+        type = i;
+        size = j;
+        noEnd = λ k. eqb-false _ _ x (i ∙ k);
+        fits = omega (arith, ltb-false (length h - p) 4 y, ltb-false (length h - p - 4) (lengthAt h p) z);
+      },
+    )
 
 module _ (h : List ℕ) where
-  item-within : (p : ℕ) {q t n : ℕ} → itemAt h p ≡ gives (tag q t n) → (p ≤ q) × (q + 4 + n ≤ length h)
+  pub item-stands : (p : ℕ) {q t n : ℕ} → itemAt h p ≡ gives (tag q t n) → (p ≡ q) × TagStands h p t n
   unfolding itemAt
-  item-within p e =
-      within (length h) p (typeAt h p) (lengthAt h p) (ltb (length h - p) 2) (eqb (typeAt h p) 0) (ltb (length h - p) 4)
-      (ltb (length h - p - 4) (lengthAt h p)) refl refl e
+  item-stands p e =
+      stands h p (ltb (length h - p) 2) (eqb (typeAt h p) 0) (ltb (length h - p) 4) (ltb (length h - p - 4) (lengthAt h p)) refl refl refl e
 
-  -- the first tag from p on lies at p or behind it, and within the header
-  from-within : (m p : ℕ) {q t n : ℕ} → itemFrom h m p ≡ gives (tag q t n) → (p ≤ q) × (q + 4 + n ≤ length h)
+  -- the first tag from p on stands at p or behind it
+  pub from-stands : (m p : ℕ) {q t n : ℕ} → itemFrom h m p ≡ gives (tag q t n) → (p ≤ q) × TagStands h q t n
   unfolding itemFrom
-  from-within zero p e = refused-gives e
-  from-within (suc m) p {q} {t} {n} e = go (λ d. from-within m (p + 1) d) (eqb (getD h p 0) 255) e
+  from-stands zero p e = refused-gives e
+  from-stands (suc m) p {q} {t} {n} e = go (λ d. from-stands m (p + 1) d) (eqb (getD h p 0) 255) e
     where
-      go : (itemFrom h m (p + 1) ≡ gives (tag q t n) → (p + 1 ≤ q) × (q + 4 + n ≤ length h)) → (b : Bool)
+      go : (itemFrom h m (p + 1) ≡ gives (tag q t n) → (p + 1 ≤ q) × TagStands h q t n) → (b : Bool)
           → (elim b as (λ (_ : Bool). Answer Item) [ true ↦ itemFrom h m (p + 1) | false ↦ itemAt h p ]) ≡ gives (tag q t n)
-          → (p ≤ q) × (q + 4 + n ≤ length h)
-      go ih true e = let w = ih e in omega arith
-      go ih false e = item-within p e
+          → (p ≤ q) × TagStands h q t n
+      go ih true e = let w = ih e in (omega arith, w .1)
+      go ih false e = let w = item-stands p e in (omega arith, subst (λ (k : ℕ). TagStands h k t n) (w .0) (w .1))
 
   pub next-within : (p : ℕ) {q t n : ℕ} → nextItem h p ≡ gives (tag q t n) → (p ≤ q) × (q + 4 + n ≤ length h)
-  next-within p e = from-within (length h - p) p e
+  next-within p e = let w = from-stands (length h - p) p e in (w .0, w .1 .fits)
 
   -- enough fuel is as good as more
   fuel : (n m p : ℕ) → length h - p ≤ n → length h - p ≤ m → tagsFrom h n p ≡ tagsFrom h m p

@@ -1,9 +1,13 @@
 -- Numbers and tags as bytes, and bytes that are the same.
-use Prim.Native.Nat.{ℕ, zero, suc, _+_, _*_, _/_, _%_}
+use Prim.Native.Nat.{ℕ, zero, suc, _+_, _*_, _/_, _%_, _<_}
 use mathlib.Core.Bool.{Bool, true, false, _&&_}
 use mathlib.Core.List.{List, [], _∷_, _++_}
 use lib.Dec.{eqb}
-use lib.ListN.{length}
+use lib.ListN.{length, getD}
+
+-- Each entry is a byte.
+abbrev pub AllBytes : List ℕ → Type 0
+AllBytes s = (i : ℕ) → getD s i 0 < 256
 
 -- Source 000 stores the numbers of a header with the low byte first: v in n bytes, and the number that bytes are.
 abbrev pub littleEndian : ℕ → ℕ → List ℕ

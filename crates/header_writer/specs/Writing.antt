@@ -42,6 +42,10 @@ headerBytes v =
     let tags = fieldBytes (requiredFields v ++ hintFields (v .«has_hint») (v .hint)) in
     front v ++ (tags ++ ending (8 + length tags))
 
+-- Where the digest's tag begins there, behind the front and the tags of version and timestamp (marked case 7).
+abbrev pub digestTag : ℕ
+digestTag = 28
+
 -- What a call of the writer leaves: its answer, and every byte of the lent output.
 pub record Write : Type 0 where
   pub answer : Answer (Unit {0})

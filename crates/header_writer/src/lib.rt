@@ -11,6 +11,9 @@ ghost use Rattle.numbers.specs.GivenBack.{writerAnswer};
 ghost use Rattle.header_writer.specs.Writing.{front, requiredFields, hintFields, ending, write, writeHeader};
 ghost use Rattle.output.specs.Puts.{Puts};
 
+// Where the digest's tag begins in a header that the writer makes: behind the front and the tags of version and timestamp.
+pub const DIGEST_TAG: usize = 28;
+
 // A number's bytes, low byte first.
 fn u16_bytes(v: u16) -> [u8; 2]
     ensures { λ r. ⌜ r ≡ littleEndian 2 v ⌝ }

@@ -2,7 +2,7 @@
 use mathlib.Core.Path.{_≡_, refl, sym, ap, _∙_}
 use Prim.Native.Nat.{ℕ, _+_, _-_, _≤_, _<_}
 use mathlib.Core.Bool.{Bool, true, false, cond}
-use mathlib.Core.List.{List}
+use mathlib.Core.List.{List, _++_}
 use native.Mathlib.Omega.{arith}
 use lib.Dec.{ltb}
 use lib.ListN.{length, getD, take, drop}
@@ -28,7 +28,7 @@ use Rattle.image.specs.declared.ImageVerdict.{ImageVerdict}
 use Rattle.image.specs.declared.ImageVerdict.the-variants.{Good, Bad}
 use Rattle.numbers.specs.GivenBack.{beside, refusalOf, badHeader, headerSays, imageAnswer, ownOf}
 use Rattle.header_tags.specs.Bytes.{same}
-use Rattle.image.specs.Check.{valuesIn, covered, judged, imageIn, Checks}
+use Rattle.image.specs.Check.{valuesIn, covered, coveredIn, judged, imageIn, Checks}
 use Rattle.image.specs.Verdict.{releaseOf, released, checkOf, verdictOf, Judges}
 use Rattle.image.proofs.Laws.{turned}
 
@@ -72,16 +72,17 @@ module _ (b places : List ℕ) {z : ℕ} (size : z ≡ valuesIn b places .size) 
   too-large lt = let e : judged b places ≡ refused 3 4 = simp (lt-ltb _ _ (rw size at lt)) in says _ refl (sym (ap released e))
 
   module _ (fits : z ≤ length b - 256) {at : ℕ} (place : at ≡ getD places 2 0) {t : Bool}
-      (is : t ≡ same (sha256 (take (256 + z - 256) (drop 256 b))) (take (at + 36 - (at + 4)) (drop (at + 4) (take 256 b)))) where
+      (is : t ≡ same (sha256 (take at b ++ take (256 + z - 256) (drop 256 b))) (take (at + 36 - (at + 4)) (drop (at + 4) (take 256 b)))) where
     -- the parts that are lent are what the digest covers, and the digest that is stated
-    compared : same (sha256 (covered b places)) (valuesIn b places .digest) ≡ t
+    compared : same (sha256 (coveredIn b places)) (valuesIn b places .digest) ≡ t
     compared =
-        let e : 256 + z - 256 ≡ valuesIn b places .size = omega arith in
+        let n : ℕ = valuesIn b places .size in
+        let e : 256 + z - 256 ≡ n = omega arith in
         let f : at + 36 - (at + 4) ≡ 32 = omega arith in
         sym (is
-        ∙ ap (λ (k : ℕ). same (sha256 (take k (drop 256 b))) (take (at + 36 - (at + 4)) (drop (at + 4) (take 256 b)))) e
-        ∙ ap (λ (k : ℕ). same (sha256 (covered b places)) (take k (drop (at + 4) (take 256 b)))) f
-        ∙ ap (λ (p : ℕ). same (sha256 (covered b places)) (bytesAt (take 256 b) (p + 4) 32)) place)
+        ∙ ap (λ (k : ℕ). same (sha256 (covered b at k)) (take (at + 36 - (at + 4)) (drop (at + 4) (take 256 b)))) e
+        ∙ ap (λ (k : ℕ). same (sha256 (covered b at n)) (take k (drop (at + 4) (take 256 b)))) f
+        ∙ ap (λ (p : ℕ). same (sha256 (covered b p n)) (bytesAt (take 256 b) (p + 4) 32)) place)
 
     pub wrong-digest : t ≡ false → Judges (judged b places) (Bad WrongDigest)
     wrong-digest no′ =
@@ -125,7 +126,7 @@ told b {x} e = go (tagPlaces b) refl e
 
     go : (a : Answer (List ℕ)) → tagPlaces b ≡ a → gives x ≡ released (then a (judged b)) → then a (judged b) ≡ readHeader b
     go (gives l) f e =
-        taken l (ltb (length b - 256) (valuesIn b l .size)) (same (sha256 (covered b l)) (valuesIn b l .digest)) e ∙ sym (by-places b f)
+        taken l (ltb (length b - 256) (valuesIn b l .size)) (same (sha256 (coveredIn b l)) (valuesIn b l .digest)) e ∙ sym (by-places b f)
     go (refused n p) f e = refused-gives (sym e)
 
 still-refused : (a : Answer Header) {n p : ℕ} → refused n p ≡ released a → a ≡ refused n p

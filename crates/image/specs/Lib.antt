@@ -1,4 +1,5 @@
 -- The check of a firmware image.
 pub mod Check
 pub mod Ordered
+pub mod Changed
 pub mod Verdict

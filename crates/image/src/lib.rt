@@ -7,6 +7,7 @@ use numbers::HeaderOutcome;
 use numbers::ImageOutcome;
 ghost use mathlib.Core.Path.{_≡_};
 ghost use Prim.Native.Nat.{_≤_};
+ghost use mathlib.Core.List.{_++_};
 ghost use lib.ListN.{length};
 ghost use Rattle.digest_fips180.specs.Sha256.{sha256};
 ghost use Rattle.flash.specs.Sectors.{Partition, firmwareOf};
@@ -40,11 +41,11 @@ pub enum ImageVerdict {
 
 // ---- the check, where the image lies
 
-// The firmware has the digest that its header states.
-fn has_digest(firmware: &[u8], stated: &[u8]) -> bool
-    ensures { λ r. ⌜ r ≡ same (sha256 (now (firmware .entry))) (now (stated .entry)) ⌝ }
+// What stands in the header before the digest's tag, and then the firmware, have the digest that is stated.
+fn has_digest(before: &[u8], firmware: &[u8], stated: &[u8]) -> bool
+    ensures { λ r. ⌜ r ≡ same (sha256 (now (before .entry) ++ now (firmware .entry))) (now (stated .entry)) ⌝ }
 {
-    let digest = digest_sha256::digest(firmware);
+    let digest = digest_sha256::digest_of_two(before, firmware);
     check::same(&digest, stated)
 }
 
@@ -62,8 +63,8 @@ fn read_release(h: &[u8], places: [usize; ROWS]) -> Release
     }
 }
 
-// The image whose header has its tags at these places. The firmware is digested where it lies, and the digest that is stated is
-// compared where it stands.
+// The image whose header has its tags at these places. What the digest covers is digested where it lies, and the digest that is stated
+// is compared where it stands.
 fn judge_at(b: &[u8], places: [usize; ROWS]) -> ImageVerdict
     requires { ⌜ (256 ≤ length (now b)) × TagsFit documentTable places 256 ⌝ }
     ensures { λ r. ⌜ Judges (judged (now (b .entry)) places) r ⌝ }
@@ -75,7 +76,11 @@ fn judge_at(b: &[u8], places: [usize; ROWS]) -> ImageVerdict
     }
     let end = header_tags::HEADER_LENGTH + size;
     let at = places[2];
-    if has_digest(&b[header_tags::HEADER_LENGTH..end], &h[at + 4..at + 36]) {
+    if has_digest(
+        &b[..at],
+        &b[header_tags::HEADER_LENGTH..end],
+        &h[at + 4..at + 36],
+    ) {
         return ImageVerdict::Good(read_release(h, places));
     }
     ImageVerdict::Bad(ImageOutcome::WrongDigest)

@@ -71,19 +71,32 @@ fn header_of(version: u8, size: u32, digest: [u8; 32]) -> Header {
     }
 }
 
-// A firmware of so many bytes behind the header's place, if there is room. Its digest.
-fn lay_firmware(partition: &mut [u8], version: u8, size: u32) -> [u8; 32] {
+// A firmware of so many bytes behind the header's place, if there is room.
+fn lay_firmware(partition: &mut [u8], version: u8, size: u32) {
+    let end = 256 + size as usize;
+    if partition.len() < end {
+        return;
+    }
+    write_firmware(&mut partition[256..end], version);
+}
+
+// The digest of the header's bytes before the digest's tag, as the writer lays it out, and of the firmware, if there is room.
+fn digest_image(partition: &[u8], size: u32) -> [u8; 32] {
     let end = 256 + size as usize;
     if partition.len() < end {
         return [0u8; 32];
     }
-    write_firmware(&mut partition[256..end], version);
-    digest_sha256::digest(&partition[256..end])
+    digest_sha256::digest_of_two(
+        &partition[0..header_writer::DIGEST_TAG],
+        &partition[256..end],
+    )
 }
 
 // An image of a version, and a status.
 fn install(partition: &mut [u8], version: u8, size: u32, status: u8) {
-    let digest = lay_firmware(partition, version, size);
+    lay_firmware(partition, version, size);
+    header_writer::write_header(partition, header_of(version, size, [0u8; 32]));
+    let digest = digest_image(partition, size);
     header_writer::write_header(partition, header_of(version, size, digest));
     set_from_end(partition, 1, status);
 }

@@ -1,8 +1,8 @@
 -- When a mark fits, by what the headers state and by the digests; and what is the same under every mark behind sector 0.
 use mathlib.Core.Path.{_≡_, refl, sym, ap, ap₂, _∙_, subst}
-use mathlib.Core.Bool.{Bool, true, false, cond, _&&_}
+use mathlib.Core.Bool.{Bool, true, false, cond}
 use mathlib.Core.List.{List, _++_}
-use Prim.Native.Nat.{ℕ, zero, suc, _+_, _-_, _*_, _≤_, _<_}
+use Prim.Native.Nat.{ℕ, zero, suc, _+_, _-_, _*_, min, _≤_, _<_}
 use native.Mathlib.Decide.{decLt}
 use native.Mathlib.Omega.{arith}
 use lib.Dec.{ltb, lit<}
@@ -11,6 +11,7 @@ use lib.Seq.{take-take}
 use borrow.Author.Tests.{lt-ltb, le-ltb, ltb-false}
 use Rattle.numbers.specs.Answer.{Answer, gives, refused, then}
 use Rattle.digest_fips180.specs.Sha256.{H0, sha256}
+use Rattle.digest_sha256.specs.Parts.{hashOver}
 use Rattle.flash.specs.declared.Geometry.{Geometry}
 use Rattle.flash.specs.Sizes.{firmware}
 use Rattle.flash.specs.Sectors.{part}
@@ -21,8 +22,8 @@ use Rattle.flash_flags.specs.declared.Flag.the-variants.{Exchanged}
 use Rattle.header_tags.specs.Bytes.{same}
 use Rattle.header_reader.specs.declared.Header.{Header}
 use Rattle.header_reader.specs.Reading.{bytesAt, tagPlaces, valuesAt}
-use Rattle.header_reader.proofs.Answers.{Located, located}
-use Rattle.image.specs.Check.{valuesIn, judged, imageIn}
+use Rattle.header_reader.proofs.Answers.{located}
+use Rattle.image.specs.Check.{valuesIn, covered, judged, imageIn}
 use Rattle.image.specs.Verdict.{checkOf}
 use Rattle.exchange.specs.Operations.{get}
 use Rattle.mending.specs.declared.Mark.{Mark}
@@ -35,10 +36,9 @@ use Rattle.mending.proofs.Images.{old-sector-length, old-firmware-length, old-f
 use Rattle.mending_images.specs.declared.Claim.{Claim}
 use Rattle.mending_images.specs.declared.Claimed.{Claimed}
 use Rattle.mending_images.specs.declared.Claimed.the-variants.{States, Nothing}
-use Rattle.mending_images.specs.declared.Claims.{Claims}
 use Rattle.mending_images.specs.declared.Claims.the-variants.{Newer, No}
-use Rattle.mending_images.specs.Claims.{claimAt, claimWithin, claimOf, claimIn, newerClaim, claimsUnder, oldBytes, hasDigest, haveDigests, fitsBy}
-use Rattle.mending_images.specs.Parts.{hashOver, wholeEnd, hashBefore, Lies}
+use Rattle.mending_images.specs.Claims.{claimAt, claimOf, claimIn, newerClaim, claimsUnder, oldBytes, hasDigest, haveDigests, fitsBy}
+use Rattle.mending_images.specs.Parts.{lastSector, hashBefore, Lies}
 use Rattle.mending_images.proofs.Pieces.{drop-take}
 use Rattle.mending_images.proofs.Hashed.{in-first}
 
@@ -66,9 +66,9 @@ module _ (b h : List ℕ) (B : 256 ≤ length b) (H : 256 ≤ length h) (E : tak
       by (yes l) = lt-ltb (length b - 256) z l ∙ sym (lt-ltb (length b) (256 + z) (omega arith))
       by (no l) = le-ltb (length b - 256) z (omega arith) ∙ sym (le-ltb (length b) (256 + z) (omega arith))
 
-  -- the digest that is stated stands at the claim's place
+  -- the digest that is stated stands in the tag at the claim's place
   stated-digest : (places : List ℕ) → tagPlaces h ≡ gives places
-      → hasDigest b (claimAt h places) ≡ same (sha256 (take (valuesIn h places .size) (drop 256 b))) (valuesIn h places .digest)
+      → hasDigest b (claimAt h places) ≡ same (sha256 (covered b (getD places 2 0) (valuesIn h places .size))) (valuesIn h places .digest)
   unfolding hasDigest
   stated-digest places e =
       let v : Header = valuesIn h places in
@@ -77,14 +77,14 @@ module _ (b h : List ℕ) (B : 256 ≤ length b) (H : 256 ≤ length h) (E : tak
       let n : 256 + v .size - 256 ≡ v .size = omega arith in
       let q : bytesAt b p 32 ≡ bytesAt (take 256 h) p 32 =
       sym (ap (take 32) (drop-take p 256 b) ∙ take-take 32 (256 - p) (drop p b) (omega arith)) ∙ ap (λ (l : List ℕ). take 32 (drop p l)) E in
-      ap₂ (λ (k : ℕ) (l : List ℕ). same (sha256 (take k (drop 256 b))) l) n q
+      ap₂ (λ (k : ℕ) (l : List ℕ). same (sha256 (covered b (getD places 2 0) k)) l) n q
 
   -- the check by what is stated
   judged-by : (places : List ℕ) → tagPlaces h ≡ gives places
       → judged b places ≡ cond (ltb (length b) (256 + valuesIn h places .size)) (refused 3 4) (cond (hasDigest b (claimAt h places)) (gives (valuesIn h places)) (refused 9 256))
   judged-by places e =
       ap (λ (l : List ℕ). cond (ltb (length b - 256) (valuesAt l places .size)) (refused 3 4)
-      (cond (same (sha256 (take (valuesAt l places .size) (drop 256 b))) (valuesAt l places .digest)) (gives (valuesAt l places)) (refused 9 256))) E
+      (cond (same (sha256 (covered b (getD places 2 0) (valuesAt l places .size))) (valuesAt l places .digest)) (gives (valuesAt l places)) (refused 9 256))) E
       ∙ ap₂ (λ (s t : Bool). cond s (refused 3 4) (cond t (gives (valuesIn h places)) (refused 9 256))) (too-large (valuesIn h places .size)) (sym (stated-digest places e))
 
   by-tests : (places : List ℕ) (s t : Bool) → hasDigest b (claimAt h places) ≡ t
@@ -205,8 +205,10 @@ unfolding joined
 joined-same s t zero h = refl
 joined-same s t (suc n) h = ap₂ (λ (x y : List ℕ). x ++ y) (joined-same s t n (λ i l. h i (omega arith))) (h n (omega arith))
 
-pub hash-same : (g : Geometry) (f : Flash) (image : OldImage) (k : Mark) (end n : ℕ) → ((i : ℕ) → i < n → flagUnder k i ≡ Exchanged)
-    → hashBefore g image k f end n ≡ hashBefore g image All0 f end n
+pub hash-same : (g : Geometry) (f : Flash) (image : OldImage) (k : Mark) (c : Claim) (n : ℕ) → ((i : ℕ) → i < n → flagUnder k i ≡ Exchanged)
+    → hashBefore g image k f c n ≡ hashBefore g image All0 f c n
 unfolding hashBefore
-hash-same g f image k end n h =
-    ap (λ (l : List ℕ). hashOver H0 (drop 256 (take (wholeEnd end) l))) (joined-same (oldSector g image k f) (oldSector g image All0 f) n (λ i l. sector-same g f image k i (h i l)))
+hash-same g f image k c n h =
+    let m : ℕ = min n (lastSector g c) in
+    ap (λ (b : List ℕ). hashOver H0 (covered b (c .digest) (m * g .size - 256)))
+    (joined-same (oldSector g image k f) (oldSector g image All0 f) m (λ i l. sector-same g f image k i (h i (omega arith))))

@@ -1,46 +1,22 @@
--- An image whose sectors lie in several places: its firmware sector by sector, and its digest from one sector to the next.
+-- An image whose sectors lie in several places: what each has of the firmware, what the digest covers sector by sector, and what is left of
+-- that behind the whole blocks.
 use mathlib.Core.Path.{_≡_, refl, sym, ap, ap₂, _∙_}
-use mathlib.Core.List.{List, [], _∷_, _++_, append-nil}
+use mathlib.Core.List.{List, [], _∷_, _++_, append-assoc, append-nil}
 use Prim.Native.Nat.{ℕ, zero, suc, _+_, _-_, _*_, _/_, _%_, min, _≤_, _<_}
-use native.Mathlib.Nat.{zero-add, zero-mul, suc-mul, mul-le-mul-right, div-add-mod', mod-lt, div-lt-iff-lt-mul}
-use native.Mathlib.Decide.{decLt}
+use native.Mathlib.Nat.{zero-add, zero-mul, suc-mul, mul-le-mul-right}
+use native.Mathlib.Decide.{decLt, ℕ-discrete}
 use native.Mathlib.Omega.{arith}
-use lib.ListN.{length, take, drop, length-append, length-take, length-drop, drop-of-length-le}
-use lib.Seq.{take-all, take-length, take-nil, drop-nil, take-append-le, take-append-add, drop-append-le, drop-append-add, take-take, drop-drop, take-add, length-take-le}
-use Rattle.digest_fips180.specs.Sha256.{H0, hash, sha256}
-use Rattle.digest_sha256.specs.Parts.{digestAfter}
-use Rattle.digest_sha256.proofs.Concatenation.{hash-on, after-whole, digest-law}
+use lib.ListN.{length, take, drop, length-append, length-drop}
+use lib.Seq.{take-all, take-length, take-nil, drop-nil, take-append-le, take-append-add, drop-append-le, drop-append-add, take-take, drop-drop, length-take-le}
+use Rattle.digest_sha256.specs.Parts.{leftOf}
 use Rattle.flash.specs.declared.Geometry.{Geometry}
 use Rattle.flash.specs.Sectors.{part, sectorOf}
+use Rattle.image.specs.Check.{covered}
 use Rattle.mending.specs.OldImages.{joined}
-use Rattle.mending.proofs.Images.{length-joined, part-joined}
-use Rattle.mending_images.specs.Parts.{firmwareIn, hashOver, wholeEnd}
+use Rattle.mending.proofs.Images.{length-joined}
+use Rattle.mending_images.specs.Parts.{firmwareIn}
 
--- ---- parts of two lists, one behind the other
-
-take-both : (n : ℕ) (x y : List ℕ) → take n (x ++ y) ≡ take n x ++ take (n - length x) y
-take-both n x y = by (decLt n (length x))
-  where
-    by : Dec (n < length x) → take n (x ++ y) ≡ take n x ++ take (n - length x) y
-    by (yes l) =
-        let z : n - length x ≡ 0 = omega arith in
-        take-append-le n x y (omega arith) ∙ sym (ap (λ (k : ℕ). take n x ++ take k y) z ∙ append-nil (take n x))
-    by (no l) =
-        let e : n ≡ length x + (n - length x) = omega arith in
-        ap (λ (k : ℕ). take k (x ++ y)) e ∙ take-append-add x y (n - length x)
-        ∙ ap (λ (l : List ℕ). l ++ take (n - length x) y) (sym (take-all n x (omega arith)))
-
-drop-both : (n : ℕ) (x y : List ℕ) → drop n (x ++ y) ≡ drop n x ++ drop (n - length x) y
-drop-both n x y = by (decLt n (length x))
-  where
-    by : Dec (n < length x) → drop n (x ++ y) ≡ drop n x ++ drop (n - length x) y
-    by (yes l) =
-        let z : n - length x ≡ 0 = omega arith in
-        drop-append-le n x y (omega arith) ∙ sym (ap (λ (k : ℕ). drop n x ++ drop k y) z)
-    by (no l) =
-        let e : n ≡ length x + (n - length x) = omega arith in
-        ap (λ (k : ℕ). drop k (x ++ y)) e ∙ drop-append-add x y (n - length x)
-        ∙ ap (λ (l : List ℕ). l ++ drop (n - length x) y) (sym (drop-of-length-le x {i = n} (omega arith)))
+-- ---- parts of a list
 
 pub drop-take : (a z : ℕ) (l : List ℕ) → drop a (take z l) ≡ take (z - a) (drop a l)
 drop-take zero z l = let e : z - 0 ≡ z = omega arith in ap (λ (k : ℕ). take k l) (sym e)
@@ -63,11 +39,6 @@ unfolding part
 sector-part g i at l e =
     let q : at + g .size - at ≡ g .size = omega arith in
     ap (λ (k : ℕ). take k (drop at l)) q ∙ ap (λ (k : ℕ). take (g .size) (drop k l)) e
-
--- nothing, where there is nothing to be had
-pub no-part : (l b : List ℕ) (w n : ℕ) → n ≡ 0 → take 0 l ≡ part w n b
-unfolding part
-no-part l b w n e = sym (ap (λ (k : ℕ). take k (drop w b)) e)
 
 -- n bytes of a sector, as they are lent
 pub lent-part : (at n : ℕ) (l : List ℕ) → take (at + n - at) (drop at l) ≡ part at n l
@@ -107,74 +78,137 @@ module _ (s i end : ℕ) (l : List ℕ) {at : ℕ} (is : at ≡ i * s) where
       let b : end - at ≡ end - i * s = omega arith in
       ap (λ (k : ℕ). take k l) m ∙ take-least (end - at) l ∙ ap₂ (λ (x y : ℕ). drop x (take y l)) o b
 
+-- ---- what a digest covers
+
+-- nothing of nothing
+pub covered-none : (at n : ℕ) → covered [] at n ≡ []
+covered-none at n = rw (take-nil at, take-nil n) refl
+
+-- it reads the front of an image
+covered-front : (b : List ℕ) (w at n : ℕ) → at ≤ w → 256 + n ≤ w → covered (take w b) at n ≡ covered b at n
+covered-front b w at n h k =
+    ap₂ (λ (x y : List ℕ). x ++ y) (take-take at w b h) (ap (take n) (drop-take 256 w b) ∙ take-take n (w - 256) (drop 256 b) (omega arith))
+
+-- ---- what is left behind the whole blocks
+
+pub left-length : (b : List ℕ) → length (leftOf b) % 64 ≡ length b % 64
+left-length b = omega (arith, length-drop (64 * (length b / 64)) b)
+
+-- of two lists it lies in the second, where that has whole blocks and room for it
+left-second : (x y : List ℕ) → length y % 64 ≡ 0 → length x % 64 ≤ length y → leftOf (x ++ y) ≡ drop (length y - length x % 64) y
+left-second x y Y h =
+    let e : 64 * (length (x ++ y) / 64) ≡ length x + (length y - length x % 64) = omega (arith, length-append x y) in
+    ap (λ (n : ℕ). drop n (x ++ y)) e ∙ drop-append-add x y (length y - length x % 64)
+
+behind-header : (w r : ℕ) → 256 + r ≤ w → 256 + (w - 256 - r) ≡ w - r
+behind-header w r h = omega arith
+
+-- of an image of whole blocks, more than the header, it is the image's end
+left-end : (b : List ℕ) (at : ℕ) → length b % 64 ≡ 0 → 256 < length b → at ≤ 256 → leftOf (covered b at (length b - 256)) ≡ drop (length b - at % 64) b
+left-end b at B W A =
+    let room : 256 + at % 64 ≤ length b = omega arith in
+    let d : length (drop 256 b) ≡ length b - 256 = length-drop 256 b in
+    let even : length (drop 256 b) % 64 ≡ 0 = omega arith in
+    let h : length (take at b) ≡ at = length-take-le at b (omega arith) in
+    ap (λ (y : List ℕ). leftOf (take at b ++ y)) (take-all (length b - 256) (drop 256 b) (omega arith))
+    ∙ left-second (take at b) (drop 256 b) even (omega arith) ∙ ap₂ (λ (x y : ℕ). drop (x - y % 64) (drop 256 b)) d h
+    ∙ drop-drop (length b - 256 - at % 64) 256 b ∙ ap (λ (x : ℕ). drop x b) (behind-header (length b) (at % 64) room)
+
+-- of the front of a list
+left-front : (n : ℕ) (l : List ℕ) → n ≤ length l → leftOf (take n l) ≡ take (n - (n - n % 64)) (drop (n - n % 64) l)
+left-front n l h =
+    let e : 64 * (length (take n l) / 64) ≡ n - n % 64 = omega (arith, length-take-le n l h) in
+    ap (λ (k : ℕ). drop k (take n l)) e ∙ drop-take (n - n % 64) n l
+
 -- ---- the sectors of an image
 
-module _ (s : ℕ → List ℕ) (z : ℕ) (Z : z % 64 ≡ 0) where
-  -- what one more sector adds
-  pub one-more : (e n : ℕ) → 256 ≤ e → length (joined s n) ≡ n * z
-      → drop 256 (take e (joined s (suc n))) ≡ drop 256 (take e (joined s n)) ++ firmwareIn z n e (s n)
+-- what the digest covers before the firmware of sector n, where that lies before the firmware's end
+unfoldable pub coversBefore : (ℕ → List ℕ) → ℕ → ℕ → ℕ → List ℕ
+coversBefore s z at zero = take at (s 0)
+coversBefore s z at (suc n) = covered (joined s (suc n)) at (suc n * z - 256)
+
+module _ (s : ℕ → List ℕ) (z : ℕ) where
+  -- the first sectors are the image's front
+  joined-front : (n m : ℕ) → n ≤ m → ((i : ℕ) → i < m → length (s i) ≡ z) → take (n * z) (joined s m) ≡ joined s n
   unfolding joined
-  one-more e n E L =
-      ap (drop 256) (take-both e (joined s n) (s n))
-      ∙ drop-both 256 (take e (joined s n)) (take (e - length (joined s n)) (s n))
-      ∙ ap (λ (k : ℕ). drop 256 (take e (joined s n)) ++ drop (256 - length (take e (joined s n))) (take (e - k) (s n))) L
-      ∙ ap (λ (l : List ℕ). drop 256 (take e (joined s n)) ++ l) (by (decLt e (n * z)))
+  joined-front n zero h L = let e : n ≡ 0 = omega arith in take-nil (n * z) ∙ ap (joined s) (sym e)
+  joined-front n (suc m) h L = by (ℕ-discrete n (suc m)) (λ l. joined-front n m l (λ i k. L i (omega arith)))
     where
-      by : Dec (e < n * z) → drop (256 - length (take e (joined s n))) (take (e - n * z) (s n)) ≡ firmwareIn z n e (s n)
-      by (yes l) =
-          let q : 256 - length (take e (joined s n)) ≡ 256 - n * z = omega (arith, length-take-le e (joined s n) (omega arith)) in
-          ap (λ (k : ℕ). drop k (take (e - n * z) (s n))) q
-      by (no l) =
-          let q : length (take e (joined s n)) ≡ n * z = ap length (take-all e (joined s n) (omega arith)) ∙ L in
-          ap (λ (k : ℕ). drop (256 - k) (take (e - n * z) (s n))) q
+      by : Dec (n ≡ suc m) → (n ≤ m → take (n * z) (joined s m) ≡ joined s n) → take (n * z) (joined s (suc m)) ≡ joined s n
+      by (yes e) below =
+          ap (λ (k : ℕ). take (k * z) (joined s (suc m))) e
+          ∙ take-all (suc m * z) (joined s (suc m)) (omega (arith, length-joined s z (suc m) L)) ∙ ap (joined s) (sym e)
+      by (no e) below =
+          let l : n ≤ m = omega arith in
+          take-append-le (n * z) (joined s m) (s m) (omega (arith, length-joined s z m (λ i k. L i (omega arith)), mul-le-mul-right z l)) ∙ below l
 
-  -- whole sectors are whole blocks
-  sectors : (n : ℕ) → (n * z) % 64 ≡ 0
-  sectors zero = omega arith
-  sectors (suc n) = omega (arith, suc-mul n z, sectors n)
+  module _ (at m : ℕ) (A : at ≤ 256) (B : 256 ≤ z) (L : (i : ℕ) → i < m → length (s i) ≡ z) where
+    first-length : (n : ℕ) → n ≤ m → length (joined s n) ≡ n * z
+    first-length n h = length-joined s z n (λ i l. L i (omega arith))
 
-  whole-length : (e n : ℕ) → 256 ≤ e → e % 64 ≡ 0 → length (joined s n) ≡ n * z → length (drop 256 (take e (joined s n))) % 64 ≡ 0
-  whole-length e n E W L = by (decLt e (n * z))
-    where
-      by : Dec (e < n * z) → length (drop 256 (take e (joined s n))) % 64 ≡ 0
-      by (yes l) = omega (arith, length-drop 256 (take e (joined s n)), length-take-le e (joined s n) (omega arith))
-      by (no l) = omega (arith, length-drop 256 (take e (joined s n)), ap length (take-all e (joined s n) (omega arith)), sectors n)
+    -- sector n, with what its firmware has before place e
+    covered-next : (e n : ℕ) → n < m → 256 ≤ e → n * z ≤ e → covered (joined s (suc n)) at (e - 256) ≡ coversBefore s z at n ++ firmwareIn z n e (s n)
+    unfolding joined coversBefore
+    covered-next e zero l E h =
+        let a : 256 ≡ 256 - 0 * z = omega (arith, zero-mul z) in
+        let b : e ≡ e - 0 * z = omega (arith, zero-mul z) in
+        ap (λ (x : List ℕ). take at (s 0) ++ x) (sym (drop-take 256 e (s 0)) ∙ ap₂ (λ (x y : ℕ). drop x (take y (s 0))) a b)
+    covered-next e (suc i) l E h =
+        let n : ℕ = suc i in
+        let J : List ℕ = joined s n in
+        let k : length J ≡ n * z = first-length n (omega arith) in
+        let one : z ≤ n * z = omega (arith, suc-mul i z) in
+        let d : length (drop 256 J) ≡ n * z - 256 = length-drop 256 J ∙ ap (λ (x : ℕ). x - 256) k in
+        let q : e - 256 ≡ length (drop 256 J) + (e - n * z) = omega arith in
+        let o : 0 ≡ 256 - n * z = omega arith in
+        let rest : take (e - 256) (drop 256 (J ++ s n)) ≡ take (n * z - 256) (drop 256 J) ++ firmwareIn z n e (s n) =
+        ap (take (e - 256)) (drop-append-le 256 J (s n) (omega arith)) ∙ ap (λ (x : ℕ). take x (drop 256 J ++ s n)) q
+        ∙ take-append-add (drop 256 J) (s n) (e - n * z)
+        ∙ ap₂ (λ (x : List ℕ) (y : ℕ). x ++ drop y (take (e - n * z) (s n))) (sym (take-all (n * z - 256) (drop 256 J) (omega arith))) o in
+        ap₂ (λ (x y : List ℕ). x ++ y) (take-append-le at J (s n) (omega arith)) rest
+        ∙ sym (append-assoc (take at J) (take (n * z - 256) (drop 256 J)) (firmwareIn z n e (s n)))
 
-  -- the hash value over one sector more
-  pub next-hash : (e n : ℕ) → 256 ≤ e → length (joined s n) ≡ n * z
-      → hashOver (hashOver H0 (drop 256 (take (wholeEnd e) (joined s n)))) (firmwareIn z n (wholeEnd e) (s n))
-      ≡ hashOver H0 (drop 256 (take (wholeEnd e) (joined s (suc n))))
-  next-hash e n E L =
-      hash-on H0 (drop 256 (take (wholeEnd e) (joined s n))) (firmwareIn z n (wholeEnd e) (s n)) (whole-length (wholeEnd e) n (omega arith) (omega arith) L)
-      ∙ ap (hashOver H0) (sym (one-more (wholeEnd e) n (omega arith) L))
+    -- the image up to place e, in sector n
+    pub covered-all : (e n : ℕ) → n < m → 256 ≤ e → n * z ≤ e → e ≤ suc n * z → covered (joined s m) at (e - 256) ≡ coversBefore s z at n ++ firmwareIn z n e (s n)
+    covered-all e n l E h k =
+        sym (covered-front (joined s m) (suc n * z) at (e - 256) (omega arith) (omega arith))
+        ∙ ap (λ (b : List ℕ). covered b at (e - 256)) (joined-front (suc n) m l L) ∙ covered-next e n l E h
 
-  -- where the bytes behind the last whole block begin: in this sector, at this place
-  module _ (m e : ℕ) (W : e ≤ m * z) (T : 0 < e % 64) (P : 0 < z) where
-    pub tail-sector : wholeEnd e / z < m
-    tail-sector = div-lt-iff-lt-mul {k = z} {x = wholeEnd e} {y = m} P .1 (omega arith)
+    -- whole sectors, as sector n adds all of its firmware
+    pub covered-whole : (e n : ℕ) → n < m → suc n * z ≤ e → covered (joined s (suc n)) at (suc n * z - 256) ≡ coversBefore s z at n ++ firmwareIn z n e (s n)
+    covered-whole e n l h =
+        let J : List ℕ = joined s (suc n) in
+        let d : length (drop 256 J) ≡ suc n * z - 256 = length-drop 256 J ∙ ap (λ (x : ℕ). x - 256) (first-length (suc n) l) in
+        let q : take (suc n * z - 256) (drop 256 J) ≡ take (e - 256) (drop 256 J) =
+        take-all (suc n * z - 256) (drop 256 J) (omega arith) ∙ sym (take-all (e - 256) (drop 256 J) (omega arith)) in
+        ap (λ (x : List ℕ). take at J ++ x) q ∙ covered-next e n l (omega (arith, suc-mul n z)) (omega (arith, suc-mul n z))
 
-    pub tail-room : wholeEnd e % z + e % 64 ≤ z
-    tail-room = omega (arith, div-add-mod' (wholeEnd e) z, sectors (wholeEnd e / z), mod-lt (wholeEnd e) P)
+    -- what is left behind the blocks of the sectors up to sector i: where they are the header alone, the end of what the digest covers of it
+    pub left-in-header : (i : ℕ) → i < m → suc i * z ≡ 256
+        → take (at - (at - at % 64)) (drop (at - at % 64) (s i)) ≡ leftOf (covered (joined s (suc i)) at (suc i * z - 256))
+    unfolding joined
+    left-in-header zero l e =
+        let n : 1 * z - 256 ≡ 0 = omega arith in
+        sym (ap (λ (x : ℕ). leftOf (take at (s 0) ++ take x (drop 256 (s 0)))) n ∙ ap leftOf (append-nil (take at (s 0)))
+        ∙ left-front at (s 0) (omega (arith, L 0 l)))
+    left-in-header (suc i) l e = absurd (omega (arith, suc-mul (suc i) z, suc-mul i z))
 
-    pub tail-is : ((i : ℕ) → i < m → length (s i) ≡ z) → part (wholeEnd e % z) (e % 64) (s (wholeEnd e / z)) ≡ part (wholeEnd e) (e % 64) (joined s m)
-    tail-is L =
-        let i : ℕ = wholeEnd e / z in
-        let q : part (i * z) z (joined s m) ≡ s i = ap (part (i * z) z) (sym (append-nil (joined s m))) ∙ part-joined s z m [] L i tail-sector in
-        ap (part (wholeEnd e % z) (e % 64)) (sym q) ∙ part-part (wholeEnd e % z) (e % 64) (i * z) z (joined s m) tail-room
-        ∙ ap (λ (k : ℕ). part k (e % 64) (joined s m)) (div-add-mod' (wholeEnd e) z)
+    module _ (Z : z % 64 ≡ 0) where
+      -- whole sectors are whole blocks
+      sectors-even : (n : ℕ) → (n * z) % 64 ≡ 0
+      sectors-even zero = omega (arith, zero-mul z)
+      sectors-even (suc n) = omega (arith, suc-mul n z, sectors-even n)
 
-  -- the digest of the firmware: what is hashed before, and the bytes behind
-  pub digest-is : (e m : ℕ) → 256 ≤ e → e ≤ m * z → length (joined s m) ≡ m * z
-      → digestAfter (hashOver H0 (drop 256 (take (wholeEnd e) (joined s m)))) (part (wholeEnd e) (e % 64) (joined s m)) (e - 256)
-      ≡ sha256 (take (e - 256) (drop 256 (joined s m)))
-  unfolding part
-  digest-is e m E W L =
-      let b : List ℕ = joined s m in
-      let w : ℕ = wholeEnd e in
-      let q : w + e % 64 ≡ e = omega arith in
-      let both : drop 256 (take w b) ++ take (e % 64) (drop w b) ≡ take (e - 256) (drop 256 b) =
-      sym (drop-append-le 256 (take w b) (take (e % 64) (drop w b)) (omega (arith, length-take-le w b (omega arith))))
-      ∙ ap (drop 256) (sym (take-add w (e % 64) b) ∙ ap (λ (k : ℕ). take k b) q) ∙ drop-take 256 e b in
-      let n : e - 256 ≡ length (take (e - 256) (drop 256 b)) = sym (length-take-le (e - 256) (drop 256 b) (omega (arith, length-drop 256 b))) in
-      after-whole H0 (drop 256 (take w b)) (take (e % 64) (drop w b)) (e - 256) (whole-length w m (omega arith) (omega arith) L)
-      ∙ ap₂ (digestAfter H0) both n ∙ digest-law (take (e - 256) (drop 256 b))
+      -- else the end of sector i
+      pub left-in-sector : (i : ℕ) → i < m → ¬ (suc i * z ≡ 256)
+          → take (length (s i) - (z - at % 64)) (drop (z - at % 64) (s i)) ≡ leftOf (covered (joined s (suc i)) at (suc i * z - 256))
+      unfolding joined
+      left-in-sector i l other =
+          let r : ℕ = at % 64 in
+          let J : List ℕ = joined s (suc i) in
+          let k : length J ≡ suc i * z = first-length (suc i) l in
+          let from : length J - r ≡ length (joined s i) + (z - r) = omega (arith, suc-mul i z, first-length i (omega arith)) in
+          take-all (length (s i) - (z - r)) (drop (z - r) (s i)) (omega (arith, length-drop (z - r) (s i)))
+          ∙ sym (ap (λ (x : ℕ). leftOf (covered J at (x - 256))) (sym k)
+          ∙ left-end J at (omega (arith, sectors-even (suc i))) (omega (arith, suc-mul i z)) A
+          ∙ ap (λ (x : ℕ). drop x J) from ∙ drop-append-add (joined s i) (s i) (z - r))

@@ -1,13 +1,12 @@
 -- What the headers of old images state, and when a mark fits.
 use mathlib.Core.Path.{_≡_, refl, sym, ap, ap₂, _∙_}
-use mathlib.Core.Bool.{Bool, true, false, cond, _&&_}
-use mathlib.Core.List.{List, [], _++_}
-use Prim.Native.Nat.{ℕ, _+_, _-_, _*_, _≤_, _<_}
+use mathlib.Core.Bool.{Bool, true, false, _&&_}
+use mathlib.Core.List.{List}
+use Prim.Native.Nat.{ℕ, _+_, _≤_, _<_}
 use native.Mathlib.Omega.{arith}
-use lib.Dec.{ltb}
-use lib.ListN.{length, getD, take, drop}
+use lib.ListN.{getD}
 use borrow.Author.Tests.{lt-ltb, le-ltb}
-use Rattle.numbers.specs.Answer.{Answer, gives, refused, then}
+use Rattle.numbers.specs.Answer.{gives, refused}
 use Rattle.numbers.specs.declared.HeaderOutcome.the-variants.{Accepted}
 use Rattle.numbers.proofs.Refusals.{refusing}
 use Rattle.header_places.specs.declared.Places.{Places}
@@ -15,11 +14,9 @@ use Rattle.header_places.specs.Judging.{Finds}
 use Rattle.header_reader.specs.Reading.{tagPlaces}
 use Rattle.image.specs.Check.{valuesIn}
 use Rattle.mending_images.specs.declared.Claim.{Claim}
-use Rattle.mending_images.specs.declared.Claimed.{Claimed}
 use Rattle.mending_images.specs.declared.Claimed.the-variants.{States, Nothing}
-use Rattle.mending_images.specs.declared.Claims.{Claims}
 use Rattle.mending_images.specs.declared.Claims.the-variants.{Newer, No}
-use Rattle.mending_images.specs.Claims.{claimAt, claimWithin, claimOf, claimIn, newerClaim}
+use Rattle.mending_images.specs.Claims.{claimAt, claimWithin, claimIn, newerClaim}
 
 -- ---- two claims
 
@@ -36,10 +33,10 @@ module _ (limit : ℕ) (h places : List ℕ) {z : ℕ} (size : z ≡ valuesIn h 
   too-long l = rw (lt-ltb limit (256 + valuesIn h places .size) (omega arith)) refl
 
   pub states : {v : ℕ} → 256 + z ≤ limit → v ≡ valuesIn h places .version
-      → States (record { version = v; end = 256 + z; digest = getD places 2 0 + 4 }) ≡ claimWithin limit (claimAt h places)
+      → States (record { version = v; end = 256 + z; digest = getD places 2 0 }) ≡ claimWithin limit (claimAt h places)
   states l e =
       rw (le-ltb limit (256 + valuesIn h places .size) (omega arith))
-      (ap₂ (λ (x y : ℕ). States (record { version = x; end = 256 + y; digest = getD places 2 0 + 4 })) e size)
+      (ap₂ (λ (x y : ℕ). States (record { version = x; end = 256 + y; digest = getD places 2 0 })) e size)
 
 pub taken : (limit : ℕ) (h places : List ℕ) → tagPlaces h ≡ gives places → claimWithin limit (claimAt h places) ≡ claimIn limit h
 unfolding claimIn

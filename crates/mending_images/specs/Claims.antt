@@ -3,7 +3,7 @@
 use mathlib.Core.Bool.{Bool, false, cond, _&&_}
 use mathlib.Core.List.{List}
 use Prim.Native.Nat.{ℕ, _+_, _-_, _*_}
-use lib.ListN.{getD, take, drop}
+use lib.ListN.{getD}
 use lib.Dec.{ltb}
 use Rattle.numbers.specs.Answer.{Answer, gives, refused}
 use Rattle.digest_fips180.specs.Sha256.{sha256}
@@ -12,7 +12,7 @@ use Rattle.flash.specs.Sizes.{firmware}
 use Rattle.flash.specs.Buffers.{Flash}
 use Rattle.header_tags.specs.Bytes.{same}
 use Rattle.header_reader.specs.Reading.{bytesAt, tagPlaces}
-use Rattle.image.specs.Check.{valuesIn}
+use Rattle.image.specs.Check.{valuesIn, covered}
 use Rattle.mending.specs.declared.Mark.{Mark}
 use Rattle.mending.specs.declared.OldImage.{OldImage}
 use Rattle.mending.specs.declared.OldImage.the-variants.{Boot, Update}
@@ -23,10 +23,10 @@ use Rattle.mending_images.specs.declared.Claimed.the-variants.{States, N
 use Rattle.mending_images.specs.declared.Claims.{Claims}
 use Rattle.mending_images.specs.declared.Claims.the-variants.{Newer, No}
 
--- What a header states whose tags stand at these places: its version, where the firmware behind it ends, and where the digest's value
--- stands.
+-- What a header states whose tags stand at these places: its version, where the firmware behind it ends, and where the digest's tag
+-- begins.
 abbrev pub claimAt : List ℕ → List ℕ → Claim
-claimAt h places = record { version = valuesIn h places .version; end = 256 + valuesIn h places .size; digest = getD places 2 0 + 4 }
+claimAt h places = record { version = valuesIn h places .version; end = 256 + valuesIn h places .size; digest = getD places 2 0 }
 
 -- A firmware that ends behind `limit` does not fit.
 abbrev pub claimWithin : ℕ → Claim → Claimed
@@ -55,9 +55,13 @@ claimsUnder g k f =
 abbrev pub oldBytes : Geometry → OldImage → Mark → Flash → List ℕ
 oldBytes g image k f = joined (oldSector g image k f) (firmware g)
 
--- The image in the bytes b has the digest that its header states.
+-- What the digest of the image in the bytes b covers, by what its header states.
+abbrev pub coveredBy : Claim → List ℕ → List ℕ
+coveredBy c b = covered b (c .digest) (c .end - 256)
+
+-- The image in the bytes b has the digest that its header states, in the digest tag's value.
 unfoldable pub hasDigest : List ℕ → Claim → Bool
-hasDigest b c = same (sha256 (take (c .end - 256) (drop 256 b))) (bytesAt b (c .digest) 32)
+hasDigest b c = same (sha256 (coveredBy c b)) (bytesAt b (c .digest + 4) 32)
 
 -- Both have, by what the headers state: UPDATE's image in bu, and BOOT's in bb.
 abbrev pub haveDigests : List ℕ → List ℕ → Claims → Bool

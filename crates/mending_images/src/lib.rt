@@ -9,19 +9,19 @@ use mending::OldImage;
 use numbers::HeaderOutcome;
 ghost use mathlib.Core.Path.{_≡_};
 ghost use mathlib.Core.Bool.{_&&_};
-ghost use Prim.Native.Nat.{_*_, _%_, min, _≤_, _<_};
+ghost use Prim.Native.Nat.{_+_, min, _≤_, _<_};
 ghost use lib.ListN.{length};
 ghost use Rattle.mending.specs.declared.OldImage.the-variants.{Boot, Update};
 ghost use Rattle.mending_images.specs.declared.Claims.the-variants.{Newer};
 ghost use Rattle.flash.specs.Sizes.{firmware, Limits};
-ghost use Rattle.flash.specs.Sectors.{part};
+ghost use Rattle.digest_fips180.specs.Sha256.{sha256};
 ghost use Rattle.flash.specs.Buffers.{lent, Shaped};
 ghost use Rattle.header_places.specs.Table.{documentTable};
 ghost use Rattle.header_places.specs.Judging.{TagsFit};
 ghost use Rattle.exchange.specs.Operations.{get};
 ghost use Rattle.mending.specs.OldImages.{oldSector};
-ghost use Rattle.mending_images.specs.Claims.{claimAt, claimWithin, claimIn, newerClaim, claimsUnder, oldBytes, hasDigest, fitsBy};
-ghost use Rattle.mending_images.specs.Parts.{firmwareIn, hashOver, hashBefore, wholeEnd, Lies};
+ghost use Rattle.mending_images.specs.Claims.{claimAt, claimWithin, claimIn, newerClaim, claimsUnder, oldBytes, coveredBy, hasDigest, fitsBy};
+ghost use Rattle.mending_images.specs.Parts.{firmwareIn, bytesBefore, hashBefore, Lies};
 
 // ---- the sectors of an old image
 
@@ -65,7 +65,7 @@ fn old_sector<'a>(
 
 // ---- what the headers state
 
-// What an image's header states: its version, where the firmware behind it ends, and where the digest's value stands.
+// What an image's header states: its version, where the firmware behind it ends, and where the digest's tag begins.
 pub struct Claim {
     pub version: u32,
     pub end: usize,
@@ -93,7 +93,7 @@ fn claim_at(first: &[u8], places: [usize; ROWS], limit: usize) -> Claimed
     Claimed::States(Claim {
         version: header_reader::read_u32(h, version + 4),
         end,
-        digest: digest + 4,
+        digest,
     })
 }
 
@@ -187,7 +187,34 @@ fn firmware_in(g: Geometry, sector: &[u8], i: SectorNumber, end: usize) -> &[u8]
     &sector[..to]
 }
 
-// The hash value that has taken in the whole blocks of sector i of an old image too.
+// What stands before the firmware of sector i and is in no hash value: in sector 0 the header's bytes before the digest's tag; before
+// another sector what is left of them, and of the firmware, behind the last whole block.
+fn bytes_before<'a>(
+    g: Geometry,
+    boot: &'a [u8],
+    update: &'a [u8],
+    swap: &'a [u8],
+    image: OldImage,
+    mark: Mark,
+    i: SectorNumber,
+    digest: usize,
+) -> &'a [u8]
+    requires { ⌜ (Shaped g (lent boot update swap)) × (i .0 < firmware g) × (digest ≤ 220) ⌝ }
+    ensures { λ r. ⌜ now r ≡ bytesBefore g image mark (lent (boot .entry) (update .entry) (swap .entry)) digest (i .0) ⌝ }
+{
+    if i.0 == 0 {
+        let first = old_sector(g, boot, update, swap, image, mark, i);
+        return &first[..digest];
+    }
+    let before = old_sector(g, boot, update, swap, image, mark, SectorNumber(i.0 - 1));
+    let n = digest % 64;
+    if flash::offset_of(g, i).0 == header_tags::HEADER_LENGTH {
+        return &before[digest - n..digest];
+    }
+    &before[g.size - n..]
+}
+
+// The hash value that has taken in sector i of an old image too. The sector in which the firmware ends is left to the digest.
 pub fn hash_sector<'a>(
     g: Geometry,
     boot: &'a [u8],
@@ -196,49 +223,24 @@ pub fn hash_sector<'a>(
     image: OldImage,
     mark: Mark,
     i: SectorNumber,
-    end: usize,
+    claim: Claim,
     h: [u32; 8],
 ) -> [u32; 8]
-    requires { ⌜ (Shaped g (lent boot update swap)) × (i .0 < firmware g) × (256 ≤ end) ⌝ }
-    ensures { λ r. ⌜ r ≡ hashOver h (firmwareIn (g .size) (i .0) (wholeEnd end)
-        (oldSector g image mark (lent (boot .entry) (update .entry) (swap .entry)) (i .0))) ⌝ }
+    requires { ⌜ (Shaped g (lent boot update swap)) × (i .0 < firmware g) × (Lies g claim)
+        × (h ≡ hashBefore g image mark (lent boot update swap) claim (i .0)) ⌝ }
+    ensures { λ r. ⌜ r ≡ hashBefore g image mark (lent (boot .entry) (update .entry) (swap .entry)) claim (i .0 + 1) ⌝ }
 {
-    let sector = old_sector(g, boot, update, swap, image, mark, i);
-    digest_block::hash_blocks(h, firmware_in(g, sector, i, end - end % 64))
-}
-
-// The bytes of an old image behind its last whole block.
-fn tail_of<'a>(
-    g: Geometry,
-    boot: &'a [u8],
-    update: &'a [u8],
-    swap: &'a [u8],
-    image: OldImage,
-    mark: Mark,
-    end: usize,
-) -> &'a [u8]
-    requires { ⌜ (Shaped g (lent boot update swap)) × (256 ≤ end) × (end ≤ firmware g * g .size) ⌝ }
-    ensures { λ r. ⌜ now r ≡ part (wholeEnd end) (end % 64) (oldBytes g image mark (lent (boot .entry) (update .entry) (swap .entry))) ⌝ }
-{
-    let n = end % 64;
-    let from = end - n;
-    if n == 0 {
-        return &swap[..0];
+    let end = claim.end;
+    if (end - 1) / g.size <= i.0 {
+        return h;
     }
-    let sector = old_sector(
-        g,
-        boot,
-        update,
-        swap,
-        image,
-        mark,
-        SectorNumber(from / g.size),
-    );
-    let at = from % g.size;
-    &sector[at..at + n]
+    let before = bytes_before(g, boot, update, swap, image, mark, i, claim.digest);
+    let sector = old_sector(g, boot, update, swap, image, mark, i);
+    digest_sha256::hash_of_two(h, before, firmware_in(g, sector, i, end))
 }
 
-// The hash value that has taken in the whole blocks of all sectors of an old image. d has taken in those before `start`.
+// The hash value that has taken in all sectors of an old image before the one in which its firmware ends. d has taken in those before
+// `start`.
 fn hash_rest<'a>(
     g: Geometry,
     boot: &'a [u8],
@@ -247,22 +249,55 @@ fn hash_rest<'a>(
     image: OldImage,
     mark: Mark,
     start: SectorNumber,
-    end: usize,
+    claim: Claim,
     d: [u32; 8],
 ) -> [u32; 8]
-    requires { ⌜ (Shaped g (lent boot update swap)) × (start .0 ≤ firmware g) × (256 ≤ end)
-        × (d ≡ hashBefore g image mark (lent boot update swap) end (start .0)) ⌝ }
-    ensures { λ r. ⌜ r ≡ hashBefore g image mark (lent (boot .entry) (update .entry) (swap .entry)) end (firmware g) ⌝ }
+    requires { ⌜ (Shaped g (lent boot update swap)) × (start .0 ≤ firmware g) × (Lies g claim)
+        × (d ≡ hashBefore g image mark (lent boot update swap) claim (start .0)) ⌝ }
+    ensures { λ r. ⌜ r ≡ hashBefore g image mark (lent (boot .entry) (update .entry) (swap .entry)) claim (firmware g) ⌝ }
 {
     let m = g.firmware_sectors();
     let mut h = d;
     let mut i = start.0;
     while i < m {
-        let x = hash_sector(g, boot, update, swap, image, mark, SectorNumber(i), end, h);
+        let x = hash_sector(
+            g,
+            boot,
+            update,
+            swap,
+            image,
+            mark,
+            SectorNumber(i),
+            claim,
+            h,
+        );
         h = x;
         i += 1;
     }
     h
+}
+
+// The digest of what an old image's digest covers. h has taken in the sectors before the one in which the firmware ends.
+fn end_digest<'a>(
+    g: Geometry,
+    boot: &'a [u8],
+    update: &'a [u8],
+    swap: &'a [u8],
+    image: OldImage,
+    mark: Mark,
+    claim: Claim,
+    h: [u32; 8],
+) -> [u8; 32]
+    requires { ⌜ (Shaped g (lent boot update swap)) × (Lies g claim)
+        × (h ≡ hashBefore g image mark (lent boot update swap) claim (firmware g)) ⌝ }
+    ensures { λ r. ⌜ r ≡ sha256 (coveredBy claim (oldBytes g image mark (lent (boot .entry) (update .entry) (swap .entry)))) ⌝ }
+{
+    let end = claim.end;
+    let last = SectorNumber((end - 1) / g.size);
+    let before = bytes_before(g, boot, update, swap, image, mark, last, claim.digest);
+    let sector = old_sector(g, boot, update, swap, image, mark, last);
+    let count = (claim.digest + end - header_tags::HEADER_LENGTH) as u64;
+    digest_sha256::digest_from_two(h, before, firmware_in(g, sector, last, end), count)
 }
 
 // An old image has the digest that its header states. d has taken in the sectors before `start`.
@@ -278,16 +313,13 @@ fn has_digest<'a>(
     d: [u32; 8],
 ) -> bool
     requires { ⌜ (Shaped g (lent boot update swap)) × (start .0 ≤ firmware g) × (Lies g claim)
-        × (d ≡ hashBefore g image mark (lent boot update swap) (claim .end) (start .0)) ⌝ }
+        × (d ≡ hashBefore g image mark (lent boot update swap) claim (start .0)) ⌝ }
     ensures { λ r. ⌜ r ≡ hasDigest (oldBytes g image mark (lent (boot .entry) (update .entry) (swap .entry))) claim ⌝ }
 {
-    let end = claim.end;
-    let h = hash_rest(g, boot, update, swap, image, mark, start, end, d);
-    let tail = tail_of(g, boot, update, swap, image, mark, end);
-    let size = (end - header_tags::HEADER_LENGTH) as u64;
-    let digest = digest_sha256::digest_from(h, tail, size);
+    let h = hash_rest(g, boot, update, swap, image, mark, start, claim, d);
+    let digest = end_digest(g, boot, update, swap, image, mark, claim, h);
     let first = old_sector(g, boot, update, swap, image, mark, SectorNumber(0));
-    let at = claim.digest;
+    let at = claim.digest + 4;
     check::same(&digest, &first[at..at + 32])
 }
 
@@ -306,8 +338,8 @@ pub fn have_digests<'a>(
     e: [u32; 8],
 ) -> bool
     requires { ⌜ (Shaped g (lent boot update swap)) × (start .0 ≤ firmware g) × (Lies g u) × (Lies g b)
-        × (d ≡ hashBefore g Update mark (lent boot update swap) (u .end) (start .0))
-        × (e ≡ hashBefore g Boot mark (lent boot update swap) (b .end) (start .0)) ⌝ }
+        × (d ≡ hashBefore g Update mark (lent boot update swap) u (start .0))
+        × (e ≡ hashBefore g Boot mark (lent boot update swap) b (start .0)) ⌝ }
     ensures { λ r. ⌜ r ≡ fitsBy g mark (lent (boot .entry) (update .entry) (swap .entry)) (Newer u b) ⌝ }
 {
     if has_digest(g, boot, update, swap, OldImage::Update, mark, start, u, d) {

@@ -1,14 +1,13 @@
 -- What is the same under all marks behind sector 0, and when such a mark fits.
 use mathlib.Core.Path.{_≡_, refl, sym, ap, _∙_}
-use mathlib.Core.Bool.{Bool, false}
-use Prim.Native.Nat.{ℕ, _+_, _-_, _*_, _/_, _≤_, _<_}
+use mathlib.Core.Bool.{false}
+use Prim.Native.Nat.{ℕ, _-_, _*_, _/_, _≤_, _<_}
 use native.Mathlib.Omega.{arith}
 use Rattle.flash.specs.declared.Geometry.{Geometry}
 use Rattle.flash.specs.Sizes.{firmware}
 use Rattle.flash.specs.Buffers.{Flash, Shaped}
 use Rattle.flash_flags.specs.declared.Flag.the-variants.{Exchanged}
 use Rattle.flash_flags.proofs.Moves.{moved-all}
-use Rattle.flash.proofs.Checked.{some-firmware}
 use Rattle.image.specs.Verdict.{checkOf}
 use Rattle.mending.specs.declared.Mark.{Mark}
 use Rattle.mending.specs.declared.Mark.the-variants.{All0}
@@ -18,7 +17,7 @@ use Rattle.mending.specs.OldImages.{fitsMark}
 use Rattle.mending.proofs.Order.{flag-moved, moves-within}
 use Rattle.mending_images.specs.declared.Claim.{Claim}
 use Rattle.mending_images.specs.declared.Claims.{Claims}
-use Rattle.mending_images.specs.declared.Claims.the-variants.{Newer, No}
+use Rattle.mending_images.specs.declared.Claims.the-variants.{No}
 use Rattle.mending_images.specs.Claims.{claimsUnder, fitsBy}
 use Rattle.mending_images.specs.Parts.{hashBefore}
 use Rattle.mending_images.proofs.Fitting.{fits-by, claims-same, hash-same}
@@ -42,6 +41,6 @@ module _ (g : Geometry) (f : Flash) (S : Shaped g f) where
   none-behind e k h l = sym (fits-behind k No h l e)
 
 -- the hash value of the sectors before a mark
-pub hash-there : (g : Geometry) (f : Flash) (image : OldImage) (k : Mark) (end a : ℕ) → Among (firmware g) k → movesOf (firmware g) k ≡ a
-    → hashBefore g image All0 f end (a / 3) ≡ hashBefore g image k f end (a / 3)
-hash-there g f image k end a h e = sym (hash-same g f image k end (a / 3) (λ i l. before-mark (firmware g) k a i h e l))
+pub hash-there : (g : Geometry) (f : Flash) (image : OldImage) (k : Mark) (c : Claim) (a : ℕ) → Among (firmware g) k → movesOf (firmware g) k ≡ a
+    → hashBefore g image All0 f c (a / 3) ≡ hashBefore g image k f c (a / 3)
+hash-there g f image k c a h e = sym (hash-same g f image k c (a / 3) (λ i l. before-mark (firmware g) k a i h e l))

@@ -1,12 +1,12 @@
 -- The marks are tried one after the other.
 use mathlib.Core.Path.{_≡_, sym, ap, _∙_, subst}
 use mathlib.Core.Bool.{Bool, true, false, cond}
-use mathlib.Core.List.{List, [], _∷_}
+use mathlib.Core.List.{_∷_}
 use Prim.Native.Nat.{ℕ, zero, suc, _+_, _-_, _*_, _≤_, _<_}
 use native.Mathlib.Omega.{arith}
-use lib.ListN.{length, getD, drop, drop-of-length-le}
+use lib.ListN.{getD, drop, drop-of-length-le}
 use lib.Seq.{drop-cons}
-use Rattle.numbers.specs.Answer.{Answer, gives, refused}
+use Rattle.numbers.specs.Answer.{gives, refused}
 use Rattle.flash.specs.Sectors.{sectorNumber}
 use Rattle.flash_flags.specs.declared.Leg.the-variants.{UpdateToSwap}
 use Rattle.mending.specs.declared.Mark.{Mark}

@@ -19,7 +19,7 @@ ghost use Rattle.mending.specs.OldImages.{fitsMark};
 ghost use Rattle.mending.specs.Mending.{firstFitting};
 ghost use Rattle.mending_images.specs.declared.Claims.the-variants.{Newer};
 ghost use Rattle.mending_images.specs.Claims.{claimsUnder};
-ghost use Rattle.mending_images.specs.Parts.{hashBefore};
+ghost use Rattle.mending_images.specs.Parts.{hashBefore, Lies};
 ghost use Rattle.mending_search.specs.Search.{firstFrom, foundOr};
 
 // How many marks each sector has: F, 7 and 3.
@@ -102,12 +102,12 @@ fn hash_on<'a>(
     swap: &'a [u8],
     image: OldImage,
     moves: usize,
-    end: usize,
+    claim: Claim,
     h: [u32; 8],
 ) -> [u32; 8]
-    requires { ⌜ (Shaped g (lent boot update swap)) × (moves ≤ 3 * firmware g) × (256 ≤ end)
-        × (h ≡ hashBefore g image All0 (lent boot update swap) end (moves / 3)) ⌝ }
-    ensures { λ r. ⌜ r ≡ hashBefore g image All0 (lent (boot .entry) (update .entry) (swap .entry)) end ((moves + 1) / 3) ⌝ }
+    requires { ⌜ (Shaped g (lent boot update swap)) × (moves ≤ 3 * firmware g) × (Lies g claim)
+        × (h ≡ hashBefore g image All0 (lent boot update swap) claim (moves / 3)) ⌝ }
+    ensures { λ r. ⌜ r ≡ hashBefore g image All0 (lent (boot .entry) (update .entry) (swap .entry)) claim ((moves + 1) / 3) ⌝ }
 {
     if moves % LEGS == LEGS - 1 {
         return mending_images::hash_sector(
@@ -118,7 +118,7 @@ fn hash_on<'a>(
             image,
             Mark::All0,
             SectorNumber(moves / LEGS),
-            end,
+            claim,
             h,
         );
     }
@@ -147,7 +147,7 @@ fn search_behind<'a>(
         swap,
         OldImage::Update,
         start,
-        u.end,
+        u,
         digest_sha256::H0,
     );
     let mut e = hash_on(
@@ -157,7 +157,7 @@ fn search_behind<'a>(
         swap,
         OldImage::Boot,
         start,
-        b.end,
+        b,
         digest_sha256::H0,
     );
     let mut moves = LEGS;
@@ -167,8 +167,8 @@ fn search_behind<'a>(
         if mending_images::have_digests(g, boot, update, swap, mark, i, u, b, d, e) {
             return FoundMark::First(mark);
         }
-        let x = hash_on(g, boot, update, swap, OldImage::Update, moves, u.end, d);
-        let y = hash_on(g, boot, update, swap, OldImage::Boot, moves, b.end, e);
+        let x = hash_on(g, boot, update, swap, OldImage::Update, moves, u, d);
+        let y = hash_on(g, boot, update, swap, OldImage::Boot, moves, b, e);
         d = x;
         e = y;
         moves += 1;

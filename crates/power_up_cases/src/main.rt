@@ -50,14 +50,21 @@ fn header_of(version: u8, digest: [u8; 32]) -> Header {
     }
 }
 
+// The digest of the header's bytes before the digest's tag, and of the firmware.
+fn digest_image(header: &[u8], code: &[u8]) -> [u8; 32] {
+    if header.len() < header_writer::DIGEST_TAG {
+        return [0u8; 32];
+    }
+    digest_sha256::digest_of_two(&header[0..header_writer::DIGEST_TAG], code)
+}
+
 // A partition with a good image of a version, its trailer sector erased up to the status byte.
 fn partition_of(version: u8, status: u8) -> [u8; PARTITION] {
     let mut partition = [0xFFu8; PARTITION];
     let code = firmware(version);
-    header_writer::write_header(
-        &mut partition,
-        header_of(version, digest_sha256::digest(&code)),
-    );
+    header_writer::write_header(&mut partition, header_of(version, [0u8; 32]));
+    let digest = digest_image(&partition, &code);
+    header_writer::write_header(&mut partition, header_of(version, digest));
     bytes::copy(&code, &mut partition[256..]);
     partition[767] = status;
     partition

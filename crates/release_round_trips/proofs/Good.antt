@@ -1,11 +1,11 @@
 -- What is made for a firmware is a good image. Assumes nothing.
-use mathlib.Core.Path.{_≡_, refl, sym, ap, _∙_}
+use mathlib.Core.Path.{_≡_, refl, sym, ap, ap₂, _∙_}
 use Prim.Native.Nat.{ℕ, _+_, _-_, _*_, _≤_, _<_}
 use mathlib.Core.List.{List, [], _++_, append-nil}
 use mathlib.Core.Bool.{Bool, true, false}
 use native.Mathlib.Omega.{arith}
 use lib.ListN.{length, take, drop, replicate, length-append}
-use lib.Seq.{take-at, drop-at, take-append-add}
+use lib.Seq.{take-at, take-length, take-append-add, take-take}
 use lib.Dec.{lit<, lit≤}
 use Rattle.numbers.specs.Answer.{Answer, gives, then}
 use Rattle.digest_fips180.specs.Sha256.{sha256, bytes, bigEndian}
@@ -16,20 +16,23 @@ use Rattle.flash.specs.Sectors.{firmwareOf}
 use Rattle.flash.proofs.Taken.{which-are-taken, tested}
 use Rattle.flash.proofs.Answers.{partition-equal}
 use Rattle.header_reader.specs.declared.Header.{Header}
+use Rattle.header_reader.specs.Reading.{tagPlaces}
+use Rattle.header_reader.proofs.Answers.{by-places}
 use Rattle.header_writer.specs.Writing.{Write, headerBytes, writeHeader}
 use Rattle.header_round_trips.specs.RoundTrips.{Holdable, carriedHint, carried, RoundTrip}
-use Rattle.header_round_trips.proofs.Back.{write-then-read, header-length}
-use Rattle.image.specs.Check.{imageIn, checkImage}
-use Rattle.image.proofs.Ordered.{checks-in-order}
+use Rattle.header_round_trips.proofs.Back.{written, write-then-read, header-length, places-read}
+use Rattle.image.specs.Check.{valuesIn, covered, imageIn, checkImage}
+use Rattle.image.proofs.Ordered.{given-same, digest-same}
 use Rattle.release_values.specs.declared.Stated.{Stated}
-use Rattle.release_header.specs.Making.{headerFor, makeHeader}
-use Rattle.release_header.proofs.Answers.{made}
+use Rattle.release_header.specs.Making.{headerWith, digestFor, headerFor, makeHeader}
+use Rattle.release_header.proofs.Answers.{made, covers}
+use Rattle.release_round_trips.proofs.Signed.{signed-digest}
 use Rattle.release_round_trips.specs.Made.{Makable, Placed, MadeChecks, OutputHasNoSay, UnstatedHintHasNoSay, exampleStated, exampleFirmware, Met, PremisesMet}
 
 -- a digest has 32 bytes
-digest-length : (m : List ℕ) → length (sha256 m) ≡ 32
-unfolding sha256 bytes bigEndian
-digest-length m = refl
+digest-length : (v : Stated) (f : List ℕ) → length (digestFor v f) ≡ 32
+unfolding digestFor sha256 bytes bigEndian
+digest-length v f = refl
 
 -- ---- the header
 
@@ -42,7 +45,7 @@ module _ (v : Stated) (f out : List ℕ) (g : Makable v f out) where
         version = g .values .version;
         timestamp = g .values .timestamp;
         authType = g .values .authType;
-        digest = digest-length f;
+        digest = digest-length v f;
         signature = g .values .signature;
         hint = g .values .hint;
       }
@@ -53,7 +56,7 @@ module _ (v : Stated) (f out : List ℕ) (g : Makable v f out) where
     size = length f;
     version = v .version;
     timestamp = v .timestamp;
-    digest = sha256 f;
+    digest = digestFor v f;
     signature = v .signature;
     «auth_type» = v .«auth_type»;
     «has_hint» = v .«has_hint»;
@@ -79,14 +82,31 @@ module _ (v : Stated) (f out : List ℕ) (g : Makable v f out) where
   length-h : length h ≡ 256
   length-h = ap length (trip .header) ∙ header-length (headerFor v f) holdable
 
+  -- what its digest covers, in every image that begins with it and the firmware
+  covered-made : (rest : List ℕ) → sha256 (covered (headerBytes (headerFor v f) ++ (f ++ rest)) 28 (length f)) ≡ digestFor v f
+  unfolding digestFor
+  covered-made rest =
+      ap sha256 (covers v f (digestFor v f) (digest-length v f) (g .values .signature) (g .values .hint) f (f ++ rest) (take-at f rest (length f) refl)
+      ∙ sym (covers v f (replicate 32 0) refl (g .values .signature) (g .values .hint) f f (take-length f)))
+
+  digest-own : digestFor v f ≡ sha256 (take 28 (w .bytes) ++ f)
+  digest-own =
+      signed-digest v f (g .values)
+      ∙ ap (λ (l : List ℕ). sha256 (l ++ f)) (ap (take 28) (sym (trip .header)) ∙ take-take 28 256 (w .bytes) (lit≤ tt))
+
   -- ---- the image
 
   sectors : (rest : List ℕ) → imageIn (h ++ (f ++ rest)) ≡ gives (headerFor v f)
   sectors rest =
-      let behind : drop 256 (h ++ (f ++ rest)) ≡ f ++ rest = drop-at h (f ++ rest) 256 length-h in
-      let covers : take (length f) (drop 256 (h ++ (f ++ rest))) ≡ f = ap (take (length f)) behind ∙ take-at f rest (length f) refl in
-      checks-in-order (h ++ (f ++ rest)) .good (headerFor v f) (trip .alone (f ++ rest))
-      (omega (arith, length-append h (f ++ rest), length-append f rest, length-h)) (ap sha256 covers)
+      let b : List ℕ = h ++ (f ++ rest) in
+      let l : List ℕ = written (v .«has_hint») in
+      let first : b ≡ headerBytes (headerFor v f) ++ (f ++ rest) = ap (λ (x : List ℕ). x ++ (f ++ rest)) (trip .header) in
+      let found : tagPlaces b ≡ gives l = ap tagPlaces first ∙ places-read (headerFor v f) holdable (f ++ rest) in
+      let is : valuesIn b l ≡ headerFor v f = given-same (sym (by-places b found) ∙ trip .alone (f ++ rest)) in
+      let size : valuesIn b l .size ≡ length f = ap (λ (x : Header). x .size) is in
+      digest-same b l found (omega (arith, size, length-append h (f ++ rest), length-append f rest, length-h))
+      (ap₂ (λ (x : List ℕ) (n : ℕ). sha256 (covered x 28 n)) first size ∙ covered-made rest ∙ sym (ap (λ (x : Header). x .digest) is))
+      ∙ ap gives is
 
   file : imageIn (h ++ f) ≡ gives (headerFor v f)
   file = rw append-nil at (sectors [])
@@ -116,6 +136,7 @@ made-checks v f out g =
       taken = trip v f out g .taken;
       others = trip v f out g .others;
       extent = trip v f out g .extent;
+      digest = digest-own v f out g;
       inPartition = partition v f out g;
       inSectors = sectors v f out g;
       inFile = file v f out g;
@@ -126,7 +147,7 @@ output-has-no-say v f out out′ g g′ = trip v f out g .header ∙ sym (trip v
 
 -- without a hint no byte of it is written
 pub unstated-hint-has-no-say : UnstatedHintHasNoSay
-unfolding makeHeader writeHeader headerBytes
+unfolding makeHeader digestFor writeHeader headerBytes
 unstated-hint-has-no-say v f out e = rw e
 
 -- ---- the premises can be met

@@ -27,7 +27,8 @@ pub record Released (text : List ℕ) (r : SheetAnswer) (firmware out : List ℕ
   pub countable : length firmware < 2 ^ 32
   pub room : 256 ≤ length out
 
--- The image that is made is good, with the firmware's size and digest, and each other value is the one that stands on its line of the sheet.
+-- The image that is made is good, with the firmware's size and the digest of header and firmware, and each other value is the one that stands
+-- on its line of the sheet.
 pub record ReleaseGood (text : List ℕ) (r : SheetAnswer) (firmware out : List ℕ) (o : WriteOutcome) (left : List ℕ) : Type 0 where
   pub image : MadeGood (write (writerAnswer o) left) (r .stated) firmware out
   pub stated : FromLines (lines text) (r .stated)

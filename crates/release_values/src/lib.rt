@@ -2,7 +2,8 @@
 ghost use mathlib.Core.Path.{_≡_};
 ghost use Rattle.release_values.specs.Stated.{blank};
 
-// The values that a person states. The firmware's size and digest are not among them: they come from the firmware itself.
+// The values that a person states. The size and the digest are not among them: the size is the firmware's, and the digest is made of the
+// header and the firmware.
 pub struct Stated {
     pub version: u32,
     // Unix seconds.

@@ -188,7 +188,8 @@ pub extern "C" fn tainhosa_read_sheet(text: &[u8], numbers: &mut [u64], bytes: &
     refused.number
 }
 
-// Makes the header of a firmware in the first 256 bytes of the output: size and digest are the firmware's. The bytes are the signature and
+// Makes the header of a firmware in the first 256 bytes of the output: the size is the firmware's, and the digest covers the header before
+// its tag and the firmware. The bytes are the signature and
 // the hint; the row takes the place of a refusal.
 #[no_mangle]
 pub extern "C" fn tainhosa_make_header(

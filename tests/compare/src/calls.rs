@@ -56,9 +56,8 @@ pub fn try_messages(c: &mut Compare, r: &mut Random) {
 
 /// The bytes to read a header from, with and without bytes behind it, and at times too few.
 fn header_input(r: &mut Random) -> Vec<u8> {
-    let code = vec![r.next() as u8; r.within(1, 40)];
-    let version = any_version(r);
-    let mut v = header(r, &code, version);
+    let (size, version) = (r.within(1, 40) as u32, any_version(r));
+    let mut v = header(r, size, version);
     let wrong = any_wrong(r, 8);
     if wrong == 3 {
         v.size = 0;

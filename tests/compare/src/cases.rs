@@ -7,17 +7,9 @@ const G: Geometry = Geometry { n: 3, s: 256 };
 fn partition(version: u8, status: u8) -> Vec<u8> {
     let mut code = vec![0x33u8; 256];
     code[255] = version;
-    let header = Header {
-        size: 256,
-        version: version as u32,
-        timestamp: 1_700_000_000,
-        digest: sha256(&code),
-        signature: [0x44; 64],
-        auth_type: 512,
-        hint: None,
-    };
+    let sheet = Sheet { version: version as u32, timestamp: 1_700_000_000, auth_type: 512, signature: [0x44; 64], hint: None };
     let mut p = vec![0xFFu8; 768];
-    write_header(&mut p, &header).unwrap();
+    make_header(&mut p, &code, &sheet).unwrap();
     p[256..512].copy_from_slice(&code);
     p[767] = status;
     p

@@ -2,17 +2,21 @@
 use crate::random::Random;
 use crate::reference::*;
 
-type Tag = (u16, Vec<u8>);
+pub type Tag = (u16, Vec<u8>);
+
+/// The types of the table, in its order, and their lengths.
+pub const TYPES: [u16; 6] = [0x0001, 0x0002, 0x0003, 0x0020, 0x0030, 0x1000];
+pub const LENGTHS: [usize; 6] = [4, 8, 32, 64, 2, 32];
 
 // ---- headers
 
-/// A header's values for this firmware.
-pub fn header(r: &mut Random, code: &[u8], version: u32) -> Header {
+/// A header's values, and any digest.
+pub fn header(r: &mut Random, size: u32, version: u32) -> Header {
     Header {
-        size: code.len() as u32,
+        size,
         version,
         timestamp: any_timestamp(r),
-        digest: sha256(code),
+        digest: r.bytes(32).try_into().unwrap(),
         signature: r.bytes(64).try_into().unwrap(),
         auth_type: r.next() as u16,
         hint: r.one_in(2).then(|| r.bytes(32).try_into().unwrap()),
@@ -29,7 +33,7 @@ pub fn any_timestamp(r: &mut Random) -> u64 {
     r.pick(&[0, 1_700_000_000, u64::MAX, any, any, any])
 }
 
-fn table_tags(v: &Header) -> Vec<Tag> {
+pub fn table_tags(v: &Header) -> Vec<Tag> {
     let mut tags = vec![
         (0x0001, v.version.to_le_bytes().to_vec()),
         (0x0002, v.timestamp.to_le_bytes().to_vec()),
@@ -77,11 +81,11 @@ fn leave_out(r: &mut Random, tags: &mut Vec<Tag>) {
 }
 
 /// A type that is not in the table, often one that is close to it. Its low byte is not FF, which would be padding.
-fn other_type(r: &mut Random) -> u16 {
+pub fn other_type(r: &mut Random) -> u16 {
     loop {
         let any = r.next() as u16;
         let kind = r.pick(&[0x0004, 0x0010, 0x0021, 0x0031, 0x0100, 0x0200, 0x0300, 0x1001, 0x2000, 0x3000, 0xFF00, 0xFFFE, any]);
-        if kind != 0 && kind & 0xFF != 0xFF && ![0x0001, 0x0002, 0x0003, 0x0020, 0x0030, 0x1000].contains(&kind) {
+        if kind != 0 && kind & 0xFF != 0xFF && !TYPES.contains(&kind) {
             return kind;
         }
     }
@@ -116,7 +120,7 @@ fn padding(r: &mut Random, gaps: usize, room: usize) -> Vec<usize> {
     all
 }
 
-fn put_tag(b: &mut Vec<u8>, kind: u16, length: u16, value: &[u8]) {
+pub fn put_tag(b: &mut Vec<u8>, kind: u16, length: u16, value: &[u8]) {
     b.extend_from_slice(&kind.to_le_bytes());
     b.extend_from_slice(&length.to_le_bytes());
     b.extend_from_slice(value);
@@ -124,7 +128,7 @@ fn put_tag(b: &mut Vec<u8>, kind: u16, length: u16, value: &[u8]) {
 
 /// A last tag that goes beyond 256: of one to three bytes, or with a length that is too large.
 fn put_tag_that_does_not_fit(r: &mut Random, b: &mut Vec<u8>) {
-    let kind = if r.one_in(2) { other_type(r) } else { r.pick(&[0x0001, 0x0002, 0x0003, 0x0020, 0x0030, 0x1000]) };
+    let kind = if r.one_in(2) { other_type(r) } else { r.pick(&TYPES) };
     let bytes_left = r.within(0, 3);
     if bytes_left > 0 {
         b.resize(HEADER - bytes_left, 0xFF);
@@ -149,6 +153,11 @@ fn fill_with_tag(r: &mut Random, b: &mut Vec<u8>) {
 
 /// A header's bytes: the tags in any order, with padding and other tags. Made for the refusal `wrong` (2 to 8), or for none (0).
 pub fn header_bytes(r: &mut Random, v: &Header, wrong: u64) -> Vec<u8> {
+    lay_out(r, v, wrong).0
+}
+
+/// The same, and where the tag of a digest stands that is as long as a digest.
+fn lay_out(r: &mut Random, v: &Header, wrong: u64) -> (Vec<u8>, Option<usize>) {
     let mut tags = table_tags(v);
     match wrong {
         5 => lengthen_or_shorten(r, &mut tags),
@@ -169,8 +178,12 @@ pub fn header_bytes(r: &mut Random, v: &Header, wrong: u64) -> Vec<u8> {
         b[r.below(4)] ^= 1 << r.below(8);
     }
     b.extend_from_slice(&v.size.to_le_bytes());
+    let mut digest = None;
     for ((kind, value), gap) in tags.iter().zip(&gaps) {
         b.resize(b.len() + gap, 0xFF);
+        if *kind == 0x0003 && value.len() == 32 {
+            digest = digest.or(Some(b.len()));
+        }
         put_tag(&mut b, *kind, value.len() as u16, value);
     }
     b.resize(b.len() + gaps[tags.len()], 0xFF);
@@ -183,7 +196,7 @@ pub fn header_bytes(r: &mut Random, v: &Header, wrong: u64) -> Vec<u8> {
     let any = r.next() as u8;
     let rest = r.pick(&[0xFF, 0xFF, 0x00, any]);
     b.resize(HEADER, if wrong == 7 { 0xFF } else { rest });
-    b
+    (b, digest)
 }
 
 /// Changes one to three of the first `within` bytes.
@@ -217,6 +230,66 @@ fn firmware_size(r: &mut Random, most: usize, wrong: u64) -> u32 {
     r.pick(&[most.max(1), 1, any, any]) as u32
 }
 
+/// Puts a digest into its tag, which begins at `at`.
+pub fn put_digest(image: &mut [u8], at: usize, digest: &[u8; 32]) {
+    image[at + 4..at + 36].copy_from_slice(digest);
+}
+
+/// Puts the digest of an image into its tag, which begins at `at`. The firmware ends at `end`.
+pub fn sign(image: &mut [u8], at: usize, end: usize) {
+    let digest = sha256(&[&image[..at], &image[HEADER..end]].concat());
+    put_digest(image, at, &digest);
+}
+
+/// What a digest could cover instead of what it has to: by name.
+pub fn other_covers(image: &[u8], at: usize, end: usize) -> Vec<(&'static str, Vec<u8>)> {
+    let (header, code) = (&image[..HEADER], &image[HEADER..end]);
+    vec![
+        ("the firmware alone", code.to_vec()),
+        ("the header's part alone", header[..at].to_vec()),
+        ("a byte of the header less", [&header[..at - 1], code].concat()),
+        ("a byte of the header more", [&header[..at + 1], code].concat()),
+        ("the digest's type too", [&header[..at + 2], code].concat()),
+        ("the digest's type and length too", [&header[..at + 4], code].concat()),
+        ("the digest's tag too", [&header[..at + 36], code].concat()),
+        ("the whole header", [header, code].concat()),
+        ("the header but for the digest's tag", [&header[..at], &header[at + 36..], code].concat()),
+        ("the header but for its magic", [&header[4..at], code].concat()),
+        ("the header but for magic and size", [&header[8..at], code].concat()),
+        ("the firmware first", [code, &header[..at]].concat()),
+        ("a byte of the firmware less", [&header[..at], &code[..code.len() - 1]].concat()),
+        ("a byte behind the firmware too", [&header[..at], &image[HEADER..image.len().min(end + 1)]].concat()),
+    ]
+}
+
+/// Makes an image's digest wrong: it covers something else, or is another, or the firmware is.
+fn spoil_digest(r: &mut Random, image: &mut [u8], at: usize, end: usize) {
+    match r.below(4) {
+        0 => image[at + 4 + r.below(32)] ^= 1 << r.below(8),
+        1 | 2 => {
+            let wrong_byte = r.pick(&[HEADER, end - 1]);
+            image[wrong_byte] ^= 1 << r.below(8);
+        }
+        _ => {
+            let others = other_covers(image, at, end);
+            let other = sha256(&others[r.below(others.len())].1);
+            put_digest(image, at, &other);
+        }
+    }
+}
+
+/// Puts a header before the firmware that ends at `end`, made for the refusal `wrong` (2 to 9), or for none (0).
+fn put_header(r: &mut Random, image: &mut [u8], v: &Header, end: usize, wrong: u64) {
+    let (h, digest) = lay_out(r, v, wrong);
+    image[..HEADER].copy_from_slice(&h);
+    if let Some(at) = digest {
+        sign(image, at, end);
+        if wrong == 9 {
+            spoil_digest(r, image, at, end);
+        }
+    }
+}
+
 /// A partition with an image, made for the refusal `wrong` (2 to 9), or for none (0). Its trailer holds any bytes.
 pub fn partition(r: &mut Random, g: Geometry, version: u32, wrong: u64) -> Vec<u8> {
     let size = firmware_size(r, g.m() * g.s - HEADER, wrong);
@@ -227,14 +300,8 @@ pub fn partition(r: &mut Random, g: Geometry, version: u32, wrong: u64) -> Vec<u
 pub fn partition_of(r: &mut Random, g: Geometry, version: u32, size: u32, wrong: u64) -> Vec<u8> {
     let mut p = r.bytes(g.n * g.s);
     let end = (HEADER + size as usize).min(p.len());
-    let mut v = header(r, &p[HEADER..end], version);
-    v.size = size;
-    if wrong == 9 {
-        let wrong_byte = r.pick(&[HEADER, end - 1]);
-        p[wrong_byte] ^= 1 << r.below(8);
-    }
-    let h = header_bytes(r, &v, wrong);
-    p[..HEADER].copy_from_slice(&h);
+    let v = header(r, size, version);
+    put_header(r, &mut p, &v, end, wrong);
     p
 }
 
@@ -243,18 +310,13 @@ pub fn file(r: &mut Random) -> Vec<u8> {
     let wrong = any_wrong(r, 9);
     let (few, some) = (r.within(1, 300), r.length(14) + 1);
     let length = r.pick(&[1, few, few, few, some]);
-    let mut code = r.bytes(length);
+    let mut b = r.bytes(HEADER + length);
     let version = any_version(r);
-    let mut v = header(r, &code, version);
+    let mut v = header(r, length as u32, version);
     if wrong == 3 {
         v.size = r.pick(&[0, v.size + 1, v.size + 1, u32::MAX]);
     }
-    if wrong == 9 {
-        let wrong_byte = r.pick(&[0, length - 1]);
-        code[wrong_byte] ^= 1 << r.below(8);
-    }
-    let mut b = header_bytes(r, &v, wrong);
-    b.extend_from_slice(&code);
+    put_header(r, &mut b, &v, HEADER + length, wrong);
     if wrong != 3 && r.one_in(2) {
         let behind = r.length(9);
         b.extend_from_slice(&r.bytes(behind));

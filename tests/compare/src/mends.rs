@@ -1,8 +1,10 @@
 //! Mending on bytes: exchanges that lose power at every operation and in every way, whose flags are spoiled, or not, and mended; and from
-//! there demand 3 once more, up to the finish, for the images that the mended flags show.
+//! there demand 3 once more, up to the finish, for the images that the mended flags show. Exchanges of images whose digest's tag and whose
+//! end stand anywhere in a block and beside the ends of sectors are mended after every operation.
 use crate::call::{Call, Lent, LentFlash};
 use crate::cuts::{moves, Job, Stage};
 use crate::inputs::*;
+use crate::layouts::{Filling, Image, Order};
 use crate::random::Random;
 use crate::reference::*;
 use crate::report::Compare;
@@ -156,6 +158,109 @@ fn every_stage(c: &mut Compare, r: &mut Random, tried: &mut Mends) {
     }
 }
 
+// ---- where the blocks lie
+
+/// Places of a digest's tag: at the front and at the end of a block, within it, and where a block has no room left for the length.
+const PLACES: [usize; 18] = [8, 9, 28, 55, 56, 63, 64, 65, 102, 119, 120, 127, 128, 129, 191, 192, 193, 218];
+
+/// Sizes of a firmware whose digest's tag is at this place: around the end of each sector, around the end of a block of the firmware, and
+/// so that what is covered ends around the end of a block, or where its length no longer fits.
+fn sizes_around(r: &mut Random, g: Geometry, at: usize) -> Vec<usize> {
+    let block = 64 * r.within(1, (g.m() * g.s - HEADER) / 64);
+    let ends = (1..=g.m()).flat_map(|i| [i * g.s - 1, i * g.s, i * g.s + 1]);
+    let mut all: Vec<usize> = ends.filter(|end| *end > HEADER).map(|end| end - HEADER).collect();
+    all.extend([1, block - 1, block, block + 1]);
+    all.extend([0, 1, 55, 56, 63].iter().map(|last| block + last - at % 64));
+    all.retain(|size| *size >= 1 && *size <= g.m() * g.s - HEADER);
+    all
+}
+
+/// An image with its digest's tag at this place, behind any of the other tags that can stand there.
+fn image_at(r: &mut Random, at: usize, version: u32, size: usize) -> Image {
+    loop {
+        let mut kinds = TYPES[..5 + r.below(2)].to_vec();
+        for i in (1..kinds.len()).rev() {
+            kinds.swap(i, r.below(i + 1));
+        }
+        let order = Order(kinds);
+        if order.places().0 <= at && at <= order.places().1 {
+            return Image::new(r, &order, at, Filling::Both, version, size);
+        }
+    }
+}
+
+/// Where what the digest covers ends, and the digest's tag.
+fn note_blocks(c: &mut Compare, g: Geometry, image: &Image) {
+    let (at, length) = (image.at, image.at + image.end - HEADER);
+    let first = (length - 1) / 64 * 64;
+    // The sector of a byte of what is covered.
+    let sector = |place: usize| if place < at { 0 } else { (HEADER + place - at) / g.s };
+    let header = if first < at { " the header and behind it, in" } else { "" };
+    let sectors = if sector(first) == sector(length - 1) { "one sector" } else { "two sectors" };
+    c.tally.note(&format!("mended: an image whose last block lies in{header} {sectors}"));
+    c.tally.note(match at % 64 {
+        0 => "mended: an image with its digest's tag at the front of a block",
+        _ => "mended: an image with its digest's tag within a block",
+    });
+    c.tally.note(match length % 64 {
+        0 => "mended: an image that fills its last block",
+        1..=55 => "mended: an image whose last block has room for its length",
+        _ => "mended: an image whose last block has no room for its length",
+    });
+    if image.end % g.s == 0 {
+        c.tally.note("mended: an image that ends with its sector");
+    }
+}
+
+/// An exchange of two images that loses its flags after each operation. It is mended, and the images are those that it began with.
+fn mend_after_each(c: &mut Compare, r: &mut Random, g: Geometry, boot: &Image, update: &Image, tried: &mut Mends) {
+    let mut f = Flash { boot: boot.partition(r, g), update: update.partition(r, g), swap: r.bytes(g.s) };
+    let (status, erased) = (r.pick(&[NEW, SUCCESS]), r.one_in(2));
+    set_trailers(g, &mut f, status, UPDATING, erased);
+    tried.exchanges += 1;
+    for _ in 0..=9 * g.m() {
+        let mut lost = f.clone();
+        spoil_flags(r, g, &mut lost);
+        let (number, _, mended) = call(c, g, &lost);
+        if number != 0 {
+            c.fail(&format!("an exchange that lost its flags is answered {number}"), &[&asked(g, &lost)]);
+        }
+        let (old_boot, old_update) = old_images(g, &mended, &mended.flags(g));
+        if old_boot[..boot.end] != boot.bytes || old_update[..update.end] != update.bytes {
+            c.fail("the mark shows other images than the exchange began with", &[&asked(g, &lost)]);
+        }
+        tried.mended += 1;
+        note_blocks(c, g, boot);
+        note_blocks(c, g, update);
+        power_up(g, &mut f, 1);
+    }
+}
+
+/// Every place and size above, as UPDATE's and as BOOT's, beside any other: in sectors of 256, of which the first is the header alone, and
+/// in larger ones.
+fn every_block(c: &mut Compare, r: &mut Random, tried: &mut Mends) {
+    for (m, s) in [(3, 256), (2, 512), (2, 768), (2, 1024)] {
+        let g = Geometry { n: m + 1, s };
+        for at in PLACES {
+            for size in sizes_around(r, g, at) {
+                let other = r.pick(&PLACES);
+                let sizes = sizes_around(r, g, other);
+                let mut pair = [(at, size), (other, sizes[r.below(sizes.len())])];
+                if r.one_in(2) {
+                    pair.swap(0, 1);
+                }
+                let version = r.below(1000) as u32;
+                let boot = image_at(r, pair[0].0, version, pair[0].1);
+                let update = image_at(r, pair[1].0, version + 1, pair[1].1);
+                mend_after_each(c, r, g, &boot, &update, tried);
+            }
+        }
+    }
+    println!("digests that end anywhere in a block: {} exchanges, {} mended, no difference", tried.exchanges, tried.mended);
+}
+
+// ---- refusals, and the most sectors
+
 /// A flash in the middle of an exchange, with spoiled flags.
 fn spoiled(c: &mut Compare, r: &mut Random) -> (Exchange, Flash) {
     let m = r.within(2, 5);
@@ -246,8 +351,9 @@ fn most_sectors(c: &mut Compare, r: &mut Random, tried: &mut Mends) {
 pub fn try_mends(c: &mut Compare, r: &mut Random) -> Mends {
     let mut tried = Mends::default();
     every_stage(c, r, &mut tried);
+    every_block(c, r, &mut tried);
     refusals(c, r);
     most_sectors(c, r, &mut tried);
-    println!("{} exchanges, {} mended and run to their finish, no difference", tried.exchanges, tried.mended);
+    println!("{} exchanges, {} mended, no difference", tried.exchanges, tried.mended);
     tried
 }

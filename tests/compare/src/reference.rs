@@ -276,7 +276,8 @@ pub fn read_sheet(text: &[u8]) -> Result<Sheet, Refusal> {
     })
 }
 
-/// The header of a firmware: its size and digest are the firmware's, all else is the sheet's.
+/// The header of a firmware: its size is the firmware's, its digest covers what the header has before it and the firmware, all else is
+/// the sheet's. The digest has no say in what stands before its tag, so it is found in a header that has none yet.
 pub fn make_header(out: &mut [u8], firmware: &[u8], sheet: &Sheet) -> Result<(), Refusal> {
     if out.len() < HEADER {
         return refuse(16, 0);
@@ -284,15 +285,19 @@ pub fn make_header(out: &mut [u8], firmware: &[u8], sheet: &Sheet) -> Result<(),
     if firmware.is_empty() || firmware.len() >= 1 << 32 {
         return refuse(3, 4);
     }
-    let header = Header {
+    let mut header = Header {
         size: firmware.len() as u32,
         version: sheet.version,
         timestamp: sheet.timestamp,
-        digest: sha256(firmware),
+        digest: [0; 32],
         signature: sheet.signature,
         auth_type: sheet.auth_type,
         hint: sheet.hint,
     };
+    let mut image = vec![0; HEADER];
+    write_header(&mut image, &header)?;
+    image.extend_from_slice(firmware);
+    header.digest = sha256(&covered(&image, header.size));
     write_header(out, &header)
 }
 
@@ -366,6 +371,31 @@ pub fn well_formed(flags: &[u8]) -> bool {
 
 // ---- the image check
 
+/// Where the digest's tag begins in a header that was read.
+fn digest_tag(header: &[u8]) -> usize {
+    let mut p = 8;
+    loop {
+        match next_tag(header, p) {
+            Ok(Some((at, 0x0003, _))) => return at,
+            Ok(Some((at, _, length))) => p = at + 4 + length,
+            _ => panic!("a header that was read has no digest"),
+        }
+    }
+}
+
+/// What the digest of an image covers: the header's bytes before the digest's tag, whatever they are, then the firmware.
+fn covered(image: &[u8], size: u32) -> Vec<u8> {
+    [&image[..digest_tag(image)], &image[HEADER..HEADER + size as usize]].concat()
+}
+
+/// The digest is the one that the header states.
+fn check_digest(image: &[u8], h: Header) -> Result<Header, Refusal> {
+    if sha256(&covered(image, h.size)) != h.digest {
+        return refuse(9, HEADER as u64);
+    }
+    Ok(h)
+}
+
 pub fn check_image(g: Geometry, partition: &[u8]) -> Result<Header, Refusal> {
     if !g.within_rules() || partition.len() != g.n * g.s {
         return refuse(1, 0);
@@ -374,10 +404,7 @@ pub fn check_image(g: Geometry, partition: &[u8]) -> Result<Header, Refusal> {
     if h.size as usize > g.m() * g.s - HEADER {
         return refuse(3, 4);
     }
-    if sha256(&partition[HEADER..HEADER + h.size as usize]) != h.digest {
-        return refuse(9, HEADER as u64);
-    }
-    Ok(h)
+    check_digest(partition, h)
 }
 
 /// The same of a file: its bytes stand for the firmware sectors.
@@ -386,10 +413,7 @@ pub fn check_firmware(image: &[u8]) -> Result<Header, Refusal> {
     if h.size as usize > image.len() - HEADER {
         return refuse(3, 4);
     }
-    if sha256(&image[HEADER..HEADER + h.size as usize]) != h.digest {
-        return refuse(9, HEADER as u64);
-    }
-    Ok(h)
+    check_digest(image, h)
 }
 
 // ---- operations
@@ -639,7 +663,7 @@ fn flags_of_mark(m: usize, sector: usize, flag: u8) -> Vec<u8> {
 }
 
 /// The areas that hold a sector of BOOT and of UPDATE as they were before the exchange: the table of places, by the sector's flag.
-fn old_places(flag: u8) -> (Area, Area) {
+pub fn old_places(flag: u8) -> (Area, Area) {
     let old_boot = if flag == 0xF || flag == 7 { Area::Boot } else { Area::Update };
     let old_update = match flag {
         0xF => Area::Update,

@@ -1,9 +1,8 @@
 //! How often each call gave each answer, and what has to be met in a run.
 use crate::call::{Call, LentFlash};
+use crate::inputs::{other_covers, TYPES};
 use crate::reference::{next_tag, Geometry, HEADER, NAMES, NEW, SUCCESS, TESTING, UPDATING};
 use std::collections::BTreeMap;
-
-const TYPES: [u16; 6] = [0x0001, 0x0002, 0x0003, 0x0020, 0x0030, 0x1000];
 
 #[derive(Default)]
 pub struct Tally {
@@ -41,6 +40,20 @@ impl Tally {
             let all: Vec<String> = wrong.iter().map(|(what, times)| format!("{times} {what}")).collect();
             println!("    {buffer}: {}", all.join(", "));
         }
+    }
+
+    /// What was never met of what the damaged images have to meet.
+    pub fn missing_of_covers(&self) -> Vec<String> {
+        let mut all: Vec<String> = covers_to_meet().into_iter().filter(|what| !self.answers.contains_key(what)).collect();
+        for (side, numbers) in [("before", 2..=9), ("behind", 4..=8)] {
+            for what in numbers.map(|n| format!("refused {n}")) {
+                let met = |key: &String| key.starts_with(&format!("damaged {side} the digest, in ")) && key.ends_with(&what);
+                if !self.answers.keys().any(met) {
+                    all.push(format!("damaged {side} the digest: {what}"));
+                }
+            }
+        }
+        all
     }
 
     /// What was never met of what mending has to meet.
@@ -221,7 +234,7 @@ fn answers(asked: &Call, number: u32, after: &Call) -> Vec<String> {
 // ---- what has to be met
 
 /// Of the mends that follow an exchange, beside the random ones.
-const MENDS: [&str; 23] = [
+const MENDS: [&str; 33] = [
     "mend: done, mark F",
     "mend: done, mark 7",
     "mend: done, mark 3",
@@ -245,7 +258,45 @@ const MENDS: [&str; 23] = [
     "mended: in an earlier sector, images that end before it",
     "mended: flags that were well formed, but of another mark",
     "mended: beside an unused half byte that is not F",
+    "mended: an image with its digest's tag at the front of a block",
+    "mended: an image with its digest's tag within a block",
+    "mended: an image whose last block lies in one sector",
+    "mended: an image whose last block lies in two sectors",
+    "mended: an image whose last block lies in the header and behind it, in one sector",
+    "mended: an image whose last block lies in the header and behind it, in two sectors",
+    "mended: an image that fills its last block",
+    "mended: an image whose last block has room for its length",
+    "mended: an image whose last block has no room for its length",
+    "mended: an image that ends with its sector",
 ];
+
+/// Of the images of which a byte is damaged, or whose digest covers something else.
+fn covers_to_meet() -> Vec<String> {
+    let (power_ups, mending) = ("refused in power-ups", "no mark fits");
+    let damaged: [(&str, &[&str]); 14] = [
+        ("before the digest, in the magic", &["refused 2", power_ups, mending]),
+        ("before the digest, in the size", &["refused 3", "refused 9", power_ups, mending]),
+        ("before the digest, in padding", &["refused 4", "refused 8", "refused 9", power_ups, mending]),
+        ("before the digest, in a skipped tag", &["refused 4", "refused 6", "refused 8", "refused 9", power_ups, mending]),
+        ("before the digest, in a tag of the table", &["refused 4", "refused 5", "refused 8", "refused 9", power_ups, mending]),
+        ("in the digest's type or length", &["refused 4", "refused 5", "refused 8", power_ups, mending]),
+        ("in the digest", &["refused 9", power_ups, mending]),
+        ("behind the digest, in padding", &["good", "mended", "refused 4", power_ups, mending]),
+        ("behind the digest, in a skipped tag", &["good", "mended", "refused 4", "refused 6", power_ups, mending]),
+        ("behind the digest, in a tag of the table", &["good", "mended", "refused 5", "refused 8", power_ups, mending]),
+        ("behind the digest, in the end", &["good", "mended", "refused 4", power_ups, mending]),
+        ("behind the digest, in what follows the end", &["good", "mended"]),
+        ("in the firmware", &["refused 9", power_ups]),
+        ("behind the firmware", &["good"]),
+    ];
+    let mut all: Vec<String> = (0..6).map(|rank| format!("good, {rank} tags of the table before the digest")).collect();
+    all.push("a header that was made: good".to_string());
+    for (part, answers) in damaged {
+        all.extend(answers.iter().map(|what| format!("damaged {part}: {what}")));
+    }
+    all.extend(other_covers(&[0; 2 * HEADER], 8, 2 * HEADER).iter().map(|(what, _)| format!("a digest over {what}: refused 9")));
+    all
+}
 
 fn answers_to_meet() -> Vec<String> {
     let numbers: [(&str, &[u32]); 12] = [

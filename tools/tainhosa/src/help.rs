@@ -7,7 +7,7 @@ macro_rules! usage {
 }
 
 usage!(USAGE, "tainhosa digest|make|list|check|compare|explain|simulate|mend ...");
-usage!(DIGEST_USAGE, "tainhosa digest [--json] FIRMWARE");
+usage!(DIGEST_USAGE, "tainhosa digest [--json] SHEET FIRMWARE");
 usage!(MAKE_USAGE, "tainhosa make [--force] [--json] SHEET FIRMWARE IMAGE");
 usage!(LIST_USAGE, "tainhosa list [--tags] [--json] IMAGE");
 usage!(CHECK_USAGE, "tainhosa check [--sectors N --size S] [--json] IMAGE");

@@ -7,7 +7,7 @@ use Rattle.image.proofs.has_digest.Tie as tie
 
 returns : tie.Need-returns
 returns c =
-    let d = c .before .before .digest in
+    let d = c .before .before .digest-of-two in
     same-is _ _ (c .same .result) (λ e. sym (d .ensures) ∙ c .same .ensures .0 e) (λ e. c .same .ensures .1 (d .ensures ∙ e))
 
 pub has-digest-spec : {M : Type 1} → statement M

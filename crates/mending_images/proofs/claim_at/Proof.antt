@@ -1,4 +1,4 @@
-use mathlib.Core.Path.{refl, sym}
+use mathlib.Core.Path.{sym}
 use native.Mathlib.Omega.{arith}
 use lib.Dec.{lit<}
 use lib.Seq.{length-take-le}
@@ -18,7 +18,7 @@ returns c =
     let c4 = c .before .before .before .before in
     too-long (c4 .args .limit) (c4 .args .first .now) (c4 .args .t2) (c .before .read-u32 .ensures) (omega arith)
 
--- the places of the version and of the digest lie within the header
+-- the place of the version lies within the header
 add-read-u32 : tie.Need-add-read-u32
 add-read-u32 c = let c4 = c .before .before .before .before in omega (arith, c4 .pre .1 .fits 0 (lit< tt))
 
@@ -26,9 +26,6 @@ read-u32-requires-2 : tie.Need-read-u32-requires-2
 read-u32-requires-2 c κs =
     let c4 = c .before .before .before .before in
     omega (arith, c4 .pre .1 .fits 0 (lit< tt), length-take-le 256 (c4 .args .first .now) (c4 .pre .0))
-
-add-t17 : tie.Need-add-t17
-add-t17 c = let c5 = c .before .before .before .before .before in omega (arith, c5 .pre .1 .fits 2 (lit< tt))
 
 returns-2 : tie.Need-returns-2
 returns-2 c =
@@ -48,5 +45,4 @@ claim-at-spec =
     returns
     add-read-u32
     read-u32-requires-2
-    add-t17
     returns-2)

@@ -1,5 +1,4 @@
-use mathlib.Core.Path.{_≡_, ap, _∙_}
-use mathlib.Core.List.{List}
+use mathlib.Core.Path.{ap, _∙_}
 use native.Mathlib.Omega.{arith}
 use Rattle.exchange.specs.declared.Area.{Area}
 use Rattle.exchange.specs.Operations.{get}

@@ -1,9 +1,7 @@
-use mathlib.Core.Path.{_≡_, ap, ap₂, _∙_}
+use mathlib.Core.Path.{ap, ap₂, _∙_}
 use Prim.Native.Nat.{ℕ, _*_}
-use mathlib.Core.List.{List}
 use native.Mathlib.Omega.{arith}
 use Rattle.flash.proofs.Checked.{sectors-are, some-firmware}
-use Rattle.mending_images.specs.declared.Claimed.{Claimed}
 use Rattle.mending_images.specs.Claims.{claimIn, newerClaim, claimsUnder}
 use borrow.Author.Needs.{needs}
 use Rattle.mending_images.proofs.read_claims.Statement.{statement}

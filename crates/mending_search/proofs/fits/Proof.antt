@@ -1,9 +1,8 @@
-use mathlib.Core.Path.{_≡_, sym, ap, _∙_}
+use mathlib.Core.Path.{sym, _∙_}
 use native.Mathlib.Omega.{arith}
 use Rattle.digest_fips180.specs.Sha256.{H0}
 use Rattle.flash.specs.Buffers.{flash}
 use Rattle.mending.specs.declared.OldImage.the-variants.{Boot, Update}
-use Rattle.mending_images.specs.Claims.{claimsUnder}
 use Rattle.mending_images.proofs.Hashed.{none-hashed}
 use Rattle.mending_images.proofs.Fitting.{claims-lie}
 use Rattle.mending_search.proofs.Behind.{fits-claims}
@@ -21,7 +20,7 @@ have-digests-requires c κs =
     let u = told .0 .0 in
     let b = told .0 .1 .0 in
     let l = claims-lie (a .g) (a .mark) f u b (sym (c .before .before .before .read-claims .ensures) ∙ told .1) in
-    (s .pre, omega arith, l .0, l .1, none-hashed (a .g) f (s .pre) Update (a .mark) (u .end), none-hashed (a .g) f (s .pre) Boot (a .mark) (b .end))
+    (s .pre, omega arith, l .0, l .1, none-hashed (a .g) f Update (a .mark) u, none-hashed (a .g) f Boot (a .mark) b)
 
 returns : tie.Need-returns
 returns c =

@@ -1,5 +1,5 @@
-use mathlib.Core.Path.{_≡_, refl, sym, ap, _∙_}
-use Prim.Native.Nat.{ℕ, _+_, _-_, _*_, _/_, _≤_}
+use mathlib.Core.Path.{_≡_, refl, sym, _∙_}
+use Prim.Native.Nat.{_+_, _-_, _*_, _/_, _≤_}
 use native.Mathlib.Omega.{arith}
 use Rattle.digest_fips180.specs.Sha256.{H0}
 use Rattle.flash.specs.Sizes.{firmware}
@@ -16,7 +16,6 @@ use Rattle.mending_images.proofs.Fitting.{claims-lie}
 use Rattle.mending_search.specs.Search.{firstFrom}
 use Rattle.mending_search.proofs.Turns.{fits-here, not-here, none-left, of-sectors}
 use Rattle.mending_search.proofs.Behind.{fits-behind, hash-there}
-use borrow.Author.Needs.{needs}
 use Rattle.mending_search.proofs.search_behind.Statement.{statement}
 use Rattle.mending_search.proofs.search_behind.Tie as tie
 
@@ -24,8 +23,8 @@ use Rattle.mending_search.proofs.search_behind.Tie as tie
 abbrev Inv-loop : tie.InvT-loop
 Inv-loop g boot update swap u b m last start d₀ e₀ moves₀ d e moves =
     (3 ≤ moves) × (moves ≤ 3 * firmware g + 1)
-    × (d ≡ hashBefore g Update All0 (flash boot update swap) (u .end) (moves / 3))
-    × (e ≡ hashBefore g Boot All0 (flash boot update swap) (b .end) (moves / 3))
+    × (d ≡ hashBefore g Update All0 (flash boot update swap) u (moves / 3))
+    × (e ≡ hashBefore g Boot All0 (flash boot update swap) b (moves / 3))
     × (firstFrom moves g (flash boot update swap) ≡ firstFrom 3 g (flash boot update swap))
 
 abbrev μ-loop : tie.MeasureT-loop
@@ -43,7 +42,7 @@ hash-on-requires c κs =
     let a = s .args in
     let f = flash (a .boot .now) (a .update .now) (a .swap .now) in
     let l = claims-lie (a .g) All0 f (a .u) (a .b) (s .pre .1) in
-    (s .pre .0, omega (arith, some-firmware (a .g) (s .pre .0 .limits)), l .0 .behind, none-hashed (a .g) f (s .pre .0) Update All0 (a .u .end))
+    (s .pre .0, omega (arith, some-firmware (a .g) (s .pre .0 .limits)), l .0, none-hashed (a .g) f Update All0 (a .u))
 
 hash-on-requires-2 : tie.Need-hash-on-requires-2 Inv-loop μ-loop
 unfolding H0
@@ -52,7 +51,7 @@ hash-on-requires-2 c κs =
     let a = s .args in
     let f = flash (a .boot .now) (a .update .now) (a .swap .now) in
     let l = claims-lie (a .g) All0 f (a .u) (a .b) (s .pre .1) in
-    (s .pre .0, omega (arith, some-firmware (a .g) (s .pre .0 .limits)), l .1 .behind, none-hashed (a .g) f (s .pre .0) Boot All0 (a .b .end))
+    (s .pre .0, omega (arith, some-firmware (a .g) (s .pre .0 .limits)), l .1, none-hashed (a .g) f Boot All0 (a .b))
 
 loop-holds : tie.Need-loop-holds Inv-loop μ-loop
 loop-holds c =
@@ -77,8 +76,8 @@ have-digests-requires c κs =
       omega (arith, c .before .loop-test .taken, n .ensures),
       l .0,
       l .1,
-      c2 .loop .inv .2 ∙ hash-there (a .g) f Update k (a .u .end) moves (w .0) (w .1),
-      c2 .loop .inv .3 ∙ hash-there (a .g) f Boot k (a .b .end) moves (w .0) (w .1),
+      c2 .loop .inv .2 ∙ hash-there (a .g) f Update k (a .u) moves (w .0) (w .1),
+      c2 .loop .inv .3 ∙ hash-there (a .g) f Boot k (a .b) moves (w .0) (w .1),
     )
 
 returns : tie.Need-returns Inv-loop μ-loop
@@ -102,7 +101,7 @@ hash-on-requires-3 c κs =
     let s = c4 .before .before .before .before .before .before .before in
     let a = s .args in
     let l = claims-lie (a .g) All0 (flash (a .boot .now) (a .update .now) (a .swap .now)) (a .u) (a .b) (s .pre .1) in
-    (s .pre .0, omega (arith, c .before .before .before .loop-test .taken, c4 .before .before .before .firmware-sectors .ensures), l .0 .behind, c4 .loop .inv .2)
+    (s .pre .0, omega (arith, c .before .before .before .loop-test .taken, c4 .before .before .before .firmware-sectors .ensures), l .0, c4 .loop .inv .2)
 
 hash-on-requires-4 : tie.Need-hash-on-requires-4 Inv-loop μ-loop
 hash-on-requires-4 c κs =
@@ -110,7 +109,7 @@ hash-on-requires-4 c κs =
     let s = c5 .before .before .before .before .before .before .before in
     let a = s .args in
     let l = claims-lie (a .g) All0 (flash (a .boot .now) (a .update .now) (a .swap .now)) (a .u) (a .b) (s .pre .1) in
-    (s .pre .0, omega (arith, c .before .before .before .before .loop-test .taken, c5 .before .before .before .firmware-sectors .ensures), l .1 .behind, c5 .loop .inv .3)
+    (s .pre .0, omega (arith, c .before .before .before .before .loop-test .taken, c5 .before .before .before .firmware-sectors .ensures), l .1, c5 .loop .inv .3)
 
 add-moves : tie.Need-add-moves Inv-loop μ-loop
 add-moves c =

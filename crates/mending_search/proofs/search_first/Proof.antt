@@ -8,7 +8,6 @@ use Rattle.image.specs.Verdict.{checkOf}
 use Rattle.mending.specs.OldImages.{fitsMark}
 use Rattle.mending_search.specs.Search.{firstFrom}
 use Rattle.mending_search.proofs.Turns.{fits-here, not-here, of-sectors}
-use borrow.Author.Needs.{needs}
 use Rattle.mending_search.proofs.search_first.Statement.{statement}
 use Rattle.mending_search.proofs.search_first.Tie as tie
 

@@ -70,22 +70,24 @@ fn see_right(image: &[u8], sheet: &Sheet, firmware: &[u8]) -> Result<Header, Sto
     }
 }
 
+/// The refusal of a sheet or a firmware.
+pub fn refused(json: bool, path: &OsStr, bytes: &[u8], refusal: &Refusal) -> Said {
+    let name = files::name(path);
+    Said::refused(json, &name, refusal).if_empty(bytes, &name)
+}
+
 pub fn run(given: &Parsed) -> Result<Said, Stop> {
     let (sheet_path, firmware_path, image_path) = (&given.words[0], &given.words[1], &given.words[2]);
     let (json, force) = (given.json(), given.has("--force"));
     output::see_open()?;
     let (text, firmware) = (files::sheet(sheet_path)?, files::firmware(firmware_path)?);
     see_free(image_path, force, &[sheet_path, firmware_path])?;
-    let refused = |path: &OsStr, bytes: &[u8], refusal: &Refusal| {
-        let name = files::name(path);
-        Said::refused(json, &name, refusal).if_empty(bytes, &name)
-    };
     let sheet = match Sheet::read(&text) {
-        Err(refusal) => return Ok(refused(sheet_path, &text, &refusal)),
+        Err(refusal) => return Ok(refused(json, sheet_path, &text, &refusal)),
         Ok(sheet) => sheet,
     };
     let mut image = match sheet.make_header(&firmware) {
-        Err(refusal) => return Ok(refused(firmware_path, &firmware, &refusal)),
+        Err(refusal) => return Ok(refused(json, firmware_path, &firmware, &refusal)),
         Ok(header) => header.to_vec(),
     };
     image.extend_from_slice(&firmware);

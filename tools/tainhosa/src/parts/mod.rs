@@ -33,7 +33,7 @@ pub const ALL: [Part; 8] = [
         name: "digest",
         usage: help::DIGEST_USAGE,
         help: help::DIGEST,
-        words: 1..=1,
+        words: 2..=2,
         switches: &["--json"],
         options: &[],
         repeated: &[],
