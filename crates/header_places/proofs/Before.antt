@@ -105,7 +105,7 @@ tag-by-tag : {T : TagTable} {h places : List ℕ} {p : ℕ} {seen : List ℕ} �
 tag-by-tag {T} {h} {places} {p} {seen} pos rows g = from-walk T h places (length h - p) p seen pos rows (g .is)
 
 -- nothing was seen before the first tag
-zeros : (k i : ℕ) → _≡_ {A = ℕ} (getD (replicate k 0) i 0) 0
+pub zeros : (k i : ℕ) → _≡_ {A = ℕ} (getD (replicate k 0) i 0) 0
 zeros zero i = refl
 zeros (suc k) zero = refl
 zeros (suc k) (suc i) = zeros k i

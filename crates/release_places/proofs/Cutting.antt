@@ -6,7 +6,7 @@ use mathlib.Core.Option.{none, some}
 use mathlib.Core.Bool.{Bool, true, false, cond}
 use native.Mathlib.Omega.{arith}
 use native.Mathlib.Decide.{ℕ-discrete}
-use lib.ListN.{length, getD, take, drop, set, replicate, drop-of-length-le}
+use lib.ListN.{length, getD, take, drop, set, drop-of-length-le}
 use lib.Seq.{getD-set-same, getD-set-other}
 use lib.Dec.{eqb}
 use Rattle.bytes.specs.Bytes.{indexOf, indexAfter, slice}
@@ -87,11 +87,6 @@ pub map-set : {A B : Type 0} (f : A → B) (l : List A) (i : ℕ) (x : A) → ma
 map-set f [] i x = refl
 map-set f (a ∷ l) zero x = refl
 map-set f (a ∷ l) (suc i) x = ap (λ (m : List _). f a ∷ m) (map-set f l i x)
-
-pub zeros : (k i : ℕ) → _≡_ {A = ℕ} (getD (replicate k 0) i 0) 0
-zeros zero i = refl
-zeros (suc k) zero = refl
-zeros (suc k) (suc i) = zeros k i
 
 pub missing-is : (text places : List ℕ) → missingRow (valuesAt text places) ≡ rowOf places 0
 unfolding missingRow rowOf

@@ -21,7 +21,8 @@ use Rattle.release_lines.proofs.Reading.{searched}
 use Rattle.release_places.specs.declared.Places.{Places}
 use Rattle.release_places.specs.Judging.{Seen, keep, put, complete, judge, judged, restOfLine, valueAt, valuesAt, Finds}
 use Rattle.release_places.proofs.Along.{not-given}
-use Rattle.release_places.proofs.Cutting.{then-same, line-first, nothing-left, line-to, rest-of, map-set, zeros, missing-is}
+use Rattle.header_places.proofs.Before.{zeros}
+use Rattle.release_places.proofs.Cutting.{then-same, line-first, nothing-left, line-to, rest-of, map-set, missing-is}
 
 -- From the place `at` on, line number n, with the values at these places seen, it goes as from the start.
 pub record Goes (text places : List ℕ) (at n : ℕ) : Type 0 where

@@ -19,7 +19,8 @@ use Rattle.release_claims.proofs.Writable.{read-is-writable}
 use Rattle.release_claims.proofs.Once.{no-value-without-its-line}
 use Rattle.release_header.specs.Making.{makeHeader}
 use Rattle.release_round_trips.specs.Made.{Makable, MadeGood, exampleFirmware}
-use Rattle.release_round_trips.specs.FromSheet.{SheetToImage, SheetMet}
+use Rattle.release_round_trips.specs.FromSheet.{SheetToImage, SignedAfterwards, SheetMet}
+use Rattle.release_round_trips.proofs.Signed.{digest-before-signing}
 use Rattle.release_round_trips.proofs.Good.{made-checks}
 
 -- an accepted sheet is read as what was given
@@ -35,6 +36,12 @@ sheet-to-image text r f out o left x =
       image = rw (x .makes) (made-checks (r .stated) f out g);
       stated = no-value-without-its-line text (r .stated) e;
     }
+
+pub signed-afterwards : SignedAfterwards
+signed-afterwards text text′ r r′ f reads is reads′ is′ v t =
+    digest-before-signing (r .stated) (r′ .stated) f
+    (read-is-writable text (r .stated) (read-as text r reads is) .statable)
+    (read-is-writable text′ (r′ .stated) (read-as text′ r′ reads′ is′) .statable) v t
 
 -- ---- the premise can be met
 

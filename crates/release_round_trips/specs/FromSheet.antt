@@ -12,7 +12,7 @@ use Rattle.release_sheet.specs.declared.SheetAnswer.{SheetAnswer}
 use Rattle.release_sheet.specs.Reading.{Reads}
 use Rattle.release_claims.specs.FromLines.{FromLines}
 use Rattle.release_claims.specs.Witness.{listed}
-use Rattle.release_header.specs.Making.{makeHeader}
+use Rattle.release_header.specs.Making.{headerFor, makeHeader}
 use Rattle.release_round_trips.specs.Made.{MadeGood, exampleFirmware}
 
 -- A call of `read_sheet` was lent the text, and a call of `make_header` its values, a firmware and the output `out`.
@@ -37,6 +37,14 @@ abbrev pub SheetToImage : Type 0
 SheetToImage =
     (text : List ℕ) (r : SheetAnswer) (firmware out : List ℕ) (o : WriteOutcome) (left : List ℕ)
     → Released text r firmware out o left → ReleaseGood text r firmware out o left
+
+-- The digest can be taken of a sheet before its signature is known: two sheets that are accepted, with the same version and timestamp, have one
+-- digest with a firmware, whatever else stands on them.
+abbrev pub SignedAfterwards : Type 0
+SignedAfterwards =
+    (text text′ : List ℕ) (r r′ : SheetAnswer) (firmware : List ℕ) → Reads text r → r .outcome ≡ Accepted → Reads text′ r′ → r′ .outcome ≡ Accepted
+    → r .stated .version ≡ r′ .stated .version → r .stated .timestamp ≡ r′ .stated .timestamp
+    → headerFor (r .stated) firmware .digest ≡ headerFor (r′ .stated) firmware .digest
 
 -- The premise can be met: by the sheet of 01's listing and a firmware of 256 bytes.
 pub record SheetMet : Type 0 where

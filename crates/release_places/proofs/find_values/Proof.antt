@@ -4,7 +4,8 @@ use mathlib.Core.Path.{_≡_, refl}
 use lib.ListN.{length, getD, length-set}
 use mathlib.Core.Logic.{⊎-elim}
 use Rattle.release_places.proofs.Walking.{Goes, begun, passed, not-understood, unknown-name, bad-value, repeated, value-in, taken, lacks, found, turned, accepted}
-use Rattle.release_places.proofs.Cutting.{zeros, within-set}
+use Rattle.header_places.proofs.Before.{zeros}
+use Rattle.release_places.proofs.Cutting.{within-set}
 use borrow.Author.Needs.{needs}
 use Rattle.release_places.proofs.find_values.Statement.{statement}
 use Rattle.release_places.proofs.find_values.Tie as tie
