@@ -1,122 +1,13 @@
-// The hash computation of SHA-256, block by block: the functions, the message schedule and the rounds. Numbers as 4.1.2 are sections of
-// FIPS 180-4.
+// The hash computation of SHA-256, block by block: the message words in a window of 16 and the rounds on it. Numbers as 4.2.2 are
+// sections of FIPS 180-4.
+use digest_rounds::Rounds;
+use digest_rounds::add;
+use digest_rounds::round_on;
 ghost use mathlib.Core.Path.{_≡_};
 ghost use Prim.Native.Nat.{_+_, _*_, _/_, _≤_, _<_};
-ghost use lib.ListN.{length, take};
+ghost use lib.ListN.{length};
 ghost use Rattle.digest_fips180.specs.Sha256 as fips;
-ghost use Rattle.digest_fips180.specs.Sha256.{_⊞_, σ₀, σ₁};
-
-// 4.2.2: the constants.
-const K: [u32; 64] = [
-    0x428a2f98,
-    0x71374491,
-    0xb5c0fbcf,
-    0xe9b5dba5,
-    0x3956c25b,
-    0x59f111f1,
-    0x923f82a4,
-    0xab1c5ed5,
-    0xd807aa98,
-    0x12835b01,
-    0x243185be,
-    0x550c7dc3,
-    0x72be5d74,
-    0x80deb1fe,
-    0x9bdc06a7,
-    0xc19bf174,
-    0xe49b69c1,
-    0xefbe4786,
-    0x0fc19dc6,
-    0x240ca1cc,
-    0x2de92c6f,
-    0x4a7484aa,
-    0x5cb0a9dc,
-    0x76f988da,
-    0x983e5152,
-    0xa831c66d,
-    0xb00327c8,
-    0xbf597fc7,
-    0xc6e00bf3,
-    0xd5a79147,
-    0x06ca6351,
-    0x14292967,
-    0x27b70a85,
-    0x2e1b2138,
-    0x4d2c6dfc,
-    0x53380d13,
-    0x650a7354,
-    0x766a0abb,
-    0x81c2c92e,
-    0x92722c85,
-    0xa2bfe8a1,
-    0xa81a664b,
-    0xc24b8b70,
-    0xc76c51a3,
-    0xd192e819,
-    0xd6990624,
-    0xf40e3585,
-    0x106aa070,
-    0x19a4c116,
-    0x1e376c08,
-    0x2748774c,
-    0x34b0bcb5,
-    0x391c0cb3,
-    0x4ed8aa4a,
-    0x5b9cca4f,
-    0x682e6ff3,
-    0x748f82ee,
-    0x78a5636f,
-    0x84c87814,
-    0x8cc70208,
-    0x90befffa,
-    0xa4506ceb,
-    0xbef9a3f7,
-    0xc67178f2,
-];
-
-// 4.1.2: the six functions.
-fn ch(x: u32, y: u32, z: u32) -> u32
-    ensures { λ r. ⌜ r ≡ fips.Ch x y z ⌝ }
-{
-    (x & y) ^ (!x & z)
-}
-
-fn maj(x: u32, y: u32, z: u32) -> u32
-    ensures { λ r. ⌜ r ≡ fips.Maj x y z ⌝ }
-{
-    (x & y) ^ (x & z) ^ (y & z)
-}
-
-fn big_sigma0(x: u32) -> u32
-    ensures { λ r. ⌜ r ≡ fips.Σ₀ x ⌝ }
-{
-    ((x >> 2) | (x << 30)) ^ ((x >> 13) | (x << 19)) ^ ((x >> 22) | (x << 10))
-}
-
-fn big_sigma1(x: u32) -> u32
-    ensures { λ r. ⌜ r ≡ fips.Σ₁ x ⌝ }
-{
-    ((x >> 6) | (x << 26)) ^ ((x >> 11) | (x << 21)) ^ ((x >> 25) | (x << 7))
-}
-
-fn small_sigma0(x: u32) -> u32
-    ensures { λ r. ⌜ r ≡ fips.σ₀ x ⌝ }
-{
-    ((x >> 7) | (x << 25)) ^ ((x >> 18) | (x << 14)) ^ (x >> 3)
-}
-
-fn small_sigma1(x: u32) -> u32
-    ensures { λ r. ⌜ r ≡ fips.σ₁ x ⌝ }
-{
-    ((x >> 17) | (x << 15)) ^ ((x >> 19) | (x << 13)) ^ (x >> 10)
-}
-
-// 3.2: addition modulo 2^32.
-fn add(x: u32, y: u32) -> u32
-    ensures { λ r. ⌜ r ≡ x ⊞ y ⌝ }
-{
-    std::num::wrapping_add_u32(x, y)
-}
+ghost use Rattle.digest_rounds.specs.Window as window;
 
 // The byte x as a word.
 fn wide(x: u8) -> u32
@@ -134,12 +25,12 @@ fn read_word(b: &[u8], t: usize) -> u32
     wide(b[at]) * 16777216 + wide(b[at + 1]) * 65536 + wide(b[at + 2]) * 256 + wide(b[at + 3])
 }
 
-// The sixteen words of the block b, and room for the rest of the schedule.
-fn load(b: &[u8]) -> [u32; 64]
+// The sixteen words of the block b.
+fn load(b: &[u8]) -> [u32; 16]
     requires { ⌜ 64 ≤ length (now b) ⌝ }
-    ensures { λ r. ⌜ take 16 r ≡ fips.words (now (b .entry)) ⌝ }
+    ensures { λ r. ⌜ r ≡ fips.words (now (b .entry)) ⌝ }
 {
-    let mut w = [0u32; 64];
+    let mut w = [0u32; 16];
     let mut t: usize = 0;
     while t < 16 {
         let x = read_word(b, t);
@@ -149,83 +40,80 @@ fn load(b: &[u8]) -> [u32; 64]
     w
 }
 
-// 6.2.2, step 1: W_t of W_(t-2), W_(t-7), W_(t-15) and W_(t-16).
-fn next_word(w2: u32, w7: u32, w15: u32, w16: u32) -> u32
-    ensures { λ r. ⌜ r ≡ σ₁ w2 ⊞ w7 ⊞ σ₀ w15 ⊞ w16 ⌝ }
+// 6.2.2, steps 1 to 3: the 64 rounds on the block's sixteen words m, from the hash value h on, each with its constant of 4.2.2. They are
+// written out, so that every place of the window is known when they are compiled.
+fn do_rounds(m: [u32; 16], h: [u32; 8]) -> Rounds
+    ensures { λ r. ⌜ r ≡ window.after (window.begin m h) 64 ⌝ }
 {
-    add(add(add(small_sigma1(w2), w7), small_sigma0(w15)), w16)
-}
-
-// The schedule whose first sixteen words are those of m. A turn makes two words; a and b are the last two.
-fn extend(m: [u32; 64]) -> [u32; 64]
-    ensures { λ r. ⌜ r ≡ fips.schedule (take 16 m) 48 ⌝ }
-{
-    let mut w = m;
-    let mut a = w[14];
-    let mut b = w[15];
-    let mut n: usize = 0;
-    while n < 48 {
-        let x = next_word(a, w[n + 9], w[n + 1], w[n]);
-        let y = next_word(b, w[n + 10], w[n + 2], w[n + 1]);
-        w[n + 16] = x;
-        w[n + 17] = y;
-        a = x;
-        b = y;
-        n += 2;
-    }
-    w
-}
-
-// 6.2.2, step 1: the schedule of the block b.
-fn make_schedule(b: &[u8]) -> [u32; 64]
-    requires { ⌜ 64 ≤ length (now b) ⌝ }
-    ensures { λ r. ⌜ r ≡ fips.schedule (fips.words (now (b .entry))) 48 ⌝ }
-{
-    extend(load(b))
-}
-
-// 6.2.2, step 3, at one t: k is K_t and w is W_t.
-fn do_round(s: [u32; 8], k: u32, w: u32) -> [u32; 8]
-    ensures { λ r. ⌜ r ≡ fips.round s k w ⌝ }
-{
-    let t1 = add(
-        add(add(add(s[7], big_sigma1(s[4])), ch(s[4], s[5], s[6])), k),
-        w,
-    );
-    let t2 = add(big_sigma0(s[0]), maj(s[0], s[1], s[2]));
-    [
-        add(t1, t2),
-        s[0],
-        s[1],
-        s[2],
-        add(s[3], t1),
-        s[4],
-        s[5],
-        s[6],
-    ]
-}
-
-// 6.2.2, steps 2 and 3: the working variables after 64 rounds on the schedule w. A turn is eight rounds, so that the variables
-// change places in name alone.
-fn do_rounds(w: [u32; 64], h: [u32; 8]) -> [u32; 8]
-    ensures { λ r. ⌜ r ≡ fips.rounds w h 64 ⌝ }
-{
-    let k = K;
-    let mut s = h;
-    let mut t: usize = 0;
-    while t < 64 {
-        let s1 = do_round(s, k[t], w[t]);
-        let s2 = do_round(s1, k[t + 1], w[t + 1]);
-        let s3 = do_round(s2, k[t + 2], w[t + 2]);
-        let s4 = do_round(s3, k[t + 3], w[t + 3]);
-        let s5 = do_round(s4, k[t + 4], w[t + 4]);
-        let s6 = do_round(s5, k[t + 5], w[t + 5]);
-        let s7 = do_round(s6, k[t + 6], w[t + 6]);
-        let s8 = do_round(s7, k[t + 7], w[t + 7]);
-        s = s8;
-        t += 8;
-    }
-    s
+    let x0 = Rounds {
+        window: m,
+        variables: h,
+    };
+    let x1 = round_on(x0, 0, 0x428a2f98);
+    let x2 = round_on(x1, 1, 0x71374491);
+    let x3 = round_on(x2, 2, 0xb5c0fbcf);
+    let x4 = round_on(x3, 3, 0xe9b5dba5);
+    let x5 = round_on(x4, 4, 0x3956c25b);
+    let x6 = round_on(x5, 5, 0x59f111f1);
+    let x7 = round_on(x6, 6, 0x923f82a4);
+    let x8 = round_on(x7, 7, 0xab1c5ed5);
+    let x9 = round_on(x8, 8, 0xd807aa98);
+    let x10 = round_on(x9, 9, 0x12835b01);
+    let x11 = round_on(x10, 10, 0x243185be);
+    let x12 = round_on(x11, 11, 0x550c7dc3);
+    let x13 = round_on(x12, 12, 0x72be5d74);
+    let x14 = round_on(x13, 13, 0x80deb1fe);
+    let x15 = round_on(x14, 14, 0x9bdc06a7);
+    let x16 = round_on(x15, 15, 0xc19bf174);
+    let x17 = round_on(x16, 16, 0xe49b69c1);
+    let x18 = round_on(x17, 17, 0xefbe4786);
+    let x19 = round_on(x18, 18, 0x0fc19dc6);
+    let x20 = round_on(x19, 19, 0x240ca1cc);
+    let x21 = round_on(x20, 20, 0x2de92c6f);
+    let x22 = round_on(x21, 21, 0x4a7484aa);
+    let x23 = round_on(x22, 22, 0x5cb0a9dc);
+    let x24 = round_on(x23, 23, 0x76f988da);
+    let x25 = round_on(x24, 24, 0x983e5152);
+    let x26 = round_on(x25, 25, 0xa831c66d);
+    let x27 = round_on(x26, 26, 0xb00327c8);
+    let x28 = round_on(x27, 27, 0xbf597fc7);
+    let x29 = round_on(x28, 28, 0xc6e00bf3);
+    let x30 = round_on(x29, 29, 0xd5a79147);
+    let x31 = round_on(x30, 30, 0x06ca6351);
+    let x32 = round_on(x31, 31, 0x14292967);
+    let x33 = round_on(x32, 32, 0x27b70a85);
+    let x34 = round_on(x33, 33, 0x2e1b2138);
+    let x35 = round_on(x34, 34, 0x4d2c6dfc);
+    let x36 = round_on(x35, 35, 0x53380d13);
+    let x37 = round_on(x36, 36, 0x650a7354);
+    let x38 = round_on(x37, 37, 0x766a0abb);
+    let x39 = round_on(x38, 38, 0x81c2c92e);
+    let x40 = round_on(x39, 39, 0x92722c85);
+    let x41 = round_on(x40, 40, 0xa2bfe8a1);
+    let x42 = round_on(x41, 41, 0xa81a664b);
+    let x43 = round_on(x42, 42, 0xc24b8b70);
+    let x44 = round_on(x43, 43, 0xc76c51a3);
+    let x45 = round_on(x44, 44, 0xd192e819);
+    let x46 = round_on(x45, 45, 0xd6990624);
+    let x47 = round_on(x46, 46, 0xf40e3585);
+    let x48 = round_on(x47, 47, 0x106aa070);
+    let x49 = round_on(x48, 48, 0x19a4c116);
+    let x50 = round_on(x49, 49, 0x1e376c08);
+    let x51 = round_on(x50, 50, 0x2748774c);
+    let x52 = round_on(x51, 51, 0x34b0bcb5);
+    let x53 = round_on(x52, 52, 0x391c0cb3);
+    let x54 = round_on(x53, 53, 0x4ed8aa4a);
+    let x55 = round_on(x54, 54, 0x5b9cca4f);
+    let x56 = round_on(x55, 55, 0x682e6ff3);
+    let x57 = round_on(x56, 56, 0x748f82ee);
+    let x58 = round_on(x57, 57, 0x78a5636f);
+    let x59 = round_on(x58, 58, 0x84c87814);
+    let x60 = round_on(x59, 59, 0x8cc70208);
+    let x61 = round_on(x60, 60, 0x90befffa);
+    let x62 = round_on(x61, 61, 0xa4506ceb);
+    let x63 = round_on(x62, 62, 0xbef9a3f7);
+    let x64 = round_on(x63, 63, 0xc67178f2);
+    x64
 }
 
 // 6.2.2, step 4: the next hash value.
@@ -249,7 +137,9 @@ pub fn compress_block(h: [u32; 8], b: &[u8]) -> [u32; 8]
     requires { ⌜ 64 ≤ length (now b) ⌝ }
     ensures { λ r. ⌜ r ≡ fips.compress h (fips.words (now (b .entry))) ⌝ }
 {
-    next_hash(do_rounds(make_schedule(b), h), h)
+    let x = do_rounds(load(b), h);
+    let s = x.variables;
+    next_hash(s, h)
 }
 
 // 6.2.2: the hash value after the whole blocks of m, from h on.

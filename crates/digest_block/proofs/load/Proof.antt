@@ -4,12 +4,12 @@ use native.Mathlib.Omega.{arith}
 use Prim.Native.Nat.{_≤_, _-_}
 use lib.ListN.{length, take, length-set}
 use Rattle.digest_fips180.specs.Sha256.{first, word, words}
-use Rattle.digest_fips180.proofs.First.{first-more}
+use Rattle.digest_fips180.proofs.First.{first-more, first-all}
 use Rattle.digest_block.proofs.load.Statement.{statement}
 use Rattle.digest_block.proofs.load.Tie as tie
 
 abbrev Inv-loop : tie.InvT-loop
-Inv-loop b w₀ t₀ w t = (t ≤ 16) × (length w ≡ 64) × (take t w ≡ first t (word b))
+Inv-loop b w₀ t₀ w t = (t ≤ 16) × (length w ≡ 16) × (take t w ≡ first t (word b))
 
 abbrev μ-loop : tie.MeasureT-loop
 μ-loop b w₀ t₀ w t = 16 - t
@@ -24,7 +24,10 @@ loop-again c = let l = c .before .before .loop in
 
 returns : tie.Need-returns Inv-loop μ-loop
 unfolding words
-returns c = let e : c .before .loop .t ≡ 16 = omega arith in rw e at (c .before .loop .inv .2)
+returns c =
+    let l = c .before .loop in
+    let e : l .t ≡ 16 = omega arith in
+    first-all (word _) _ 16 (l .inv .1) (rw e at (l .inv .2))
 
 pub load-spec : {M : Type 1} → statement M
 load-spec =

@@ -1,6 +1,6 @@
 use borrow.Author.Needs.{needs}
-use Rattle.digest_block.proofs.next_word.Statement.{statement}
-use Rattle.digest_block.proofs.next_word.Tie as tie
+use Rattle.digest_rounds.proofs.next_word.Statement.{statement}
+use Rattle.digest_rounds.proofs.next_word.Tie as tie
 
 returns : tie.Need-returns
 returns c = cc

@@ -1,0 +1,14 @@
+use mathlib.Core.Path.{refl, ap}
+use Prim.Native.Nat.{ℕ}
+use borrow.Author.Needs.{needs}
+use Rattle.digest_fips180.specs.Sha256.{_⊕_, SHR, σ₀}
+use Rattle.digest_rounds.proofs.Bits.{two-rotations}
+use Rattle.digest_rounds.proofs.small_sigma0.Statement.{statement}
+use Rattle.digest_rounds.proofs.small_sigma0.Tie as tie
+
+returns : tie.Need-returns
+unfolding σ₀
+returns c = ap (λ (r : ℕ). r ⊕ SHR 3 (c .args .x)) (two-rotations (c .args .x) 7 11 14 refl (search needs))
+
+pub small-sigma0-spec : {M : Type 1} → statement M
+small-sigma0-spec = tie.close (tie.spec returns)
