@@ -1,5 +1,6 @@
 /*
- * One update, armed before: tainhosa_power_up beside the same call of another archive, in the same buffers. Each side has made the headers
+ * The digest of 1 MiB: tainhosa_sha256 beside the same call of another archive. Fails if the two digests differ.
+ * One update, armed before: tainhosa_power_up beside that of the other archive, in the same buffers. Each side has made the headers
  * of its images itself. The firmware fills its sectors. Fails if a side does not finish its update, or leaves other firmware than it began
  * with. The words are the sectors of a partition and the bytes of a sector.
  */
@@ -14,27 +15,61 @@ typedef uint32_t make_header_call(uint8_t *, size_t, const uint8_t *, size_t, ui
                                   uint64_t *, size_t);
 typedef uint32_t arm_call(size_t, size_t, uint8_t *, size_t, uint8_t *, size_t, uint8_t *, size_t, uint64_t *, size_t);
 typedef uint32_t power_up_call(size_t, size_t, uint8_t *, size_t, uint8_t *, size_t, uint8_t *, size_t, uint64_t, uint64_t *, size_t);
+typedef uint32_t sha256_call(const uint8_t *, size_t, uint8_t *, size_t);
 
 /* The other archive's calls, as bench/beside names them. */
+sha256_call other_sha256;
 make_header_call other_make_header;
 arm_call other_arm;
 power_up_call other_power_up;
 
-enum { SIDES = 2 };
+enum { SIDES = 2, MESSAGE = 1 << 20 };
 
 static const struct {
+    sha256_call *sha256;
     make_header_call *make_header;
     arm_call *arm;
     power_up_call *power_up;
 } calls[SIDES] = {
-    {tainhosa_make_header, tainhosa_arm, tainhosa_power_up},
-    {other_make_header, other_arm, other_power_up},
+    {tainhosa_sha256, tainhosa_make_header, tainhosa_arm, tainhosa_power_up},
+    {other_sha256, other_make_header, other_arm, other_power_up},
 };
 
 static size_t sectors, size, length;
 static uint8_t *boot, *update, *swap;
 static uint8_t *first_boot[SIDES], *first_update[SIDES];
 static int side;
+
+/* ---- The digest */
+
+static uint8_t *message;
+static uint8_t digests[SIDES][32];
+
+static void digest(void)
+{
+    if (calls[side].sha256(message, MESSAGE, digests[side], 32) != TAINHOSA_OK) {
+        fail("sha256 refused");
+    }
+    side = (side + 1) % SIDES;
+}
+
+/* The sides are run in turns, and begin with this library's. */
+static void measure_digest(void)
+{
+    action *const sides[SIDES] = {digest, digest};
+    double best[SIDES];
+    message = room_for(MESSAGE);
+    fill(message, MESSAGE, 1);
+    digest();
+    digest();
+    if (memcmp(digests[0], digests[1], 32) != 0) {
+        fail("two digests differ");
+    }
+    best_seconds(sides, SIDES, NULL, best);
+    print_row("digest of 1 MiB; the other", "MB/s", 0, MESSAGE / best[0] / 1e6, MESSAGE / best[1] / 1e6);
+}
+
+/* ---- The update */
 
 static void make(int k, uint8_t *partition, uint32_t version)
 {
@@ -96,7 +131,6 @@ static void compare(void)
 
 int main(int words, char **word)
 {
-    /* The sides are run in turns, and begin with this library's. */
     action *const sides[SIDES] = {run, run};
     double best[SIDES];
     char what[80];
@@ -117,6 +151,7 @@ int main(int words, char **word)
         prepare(k);
     }
     compare();
+    measure_digest();
     best_seconds(sides, SIDES, restore, best);
     snprintf(what, sizeof what, "update, %zu sectors of %zu; the other", sectors, size);
     print_row(what, "ms", 3, best[0] * 1e3, best[1] * 1e3);

@@ -1,2 +1,2 @@
--- One turn of each loop.
+-- One more round, and one more block.
 mod Steps

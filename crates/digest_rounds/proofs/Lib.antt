@@ -1,3 +1,3 @@
--- The laws of words by which the functions are computed with fewer operations.
+-- Laws of words, and what the window holds at each round.
 pub mod Bits
 pub mod Window

@@ -1,9 +1,18 @@
 // The rounds of SHA-256, each with its message word out of a window of 16 words (document 02, request four). Numbers as 4.1.2 are
 // sections of FIPS 180-4. The six functions take fewer operations here than the standard writes: proofs/Bits.antt has the laws.
 ghost use mathlib.Core.Path.{_≡_};
+ghost use Prim.Native.Nat.{_<_};
 ghost use Rattle.digest_fips180.specs.Sha256 as fips;
 ghost use Rattle.digest_fips180.specs.Sha256.{_⊞_, σ₀, σ₁};
 ghost use Rattle.digest_rounds.specs.Window as window;
+
+// 3.2: rotation to the right by n places.
+fn rotr(x: u32, n: u32) -> u32
+    requires { ⌜ (0 < n) × (n < 32) ⌝ }
+    ensures { λ r. ⌜ r ≡ fips.ROTR n x ⌝ }
+{
+    (x >> n) | (x << (32 - n))
+}
 
 // 4.1.2: the six functions.
 fn ch(x: u32, y: u32, z: u32) -> u32
@@ -21,29 +30,25 @@ fn maj(x: u32, y: u32, z: u32) -> u32
 fn big_sigma0(x: u32) -> u32
     ensures { λ r. ⌜ r ≡ fips.Σ₀ x ⌝ }
 {
-    let y = x ^ ((x >> 11) | (x << 21));
-    ((y >> 2) | (y << 30)) ^ ((x >> 22) | (x << 10))
+    rotr(x ^ rotr(x, 11), 2) ^ rotr(x, 22)
 }
 
 fn big_sigma1(x: u32) -> u32
     ensures { λ r. ⌜ r ≡ fips.Σ₁ x ⌝ }
 {
-    let y = x ^ ((x >> 5) | (x << 27));
-    ((y >> 6) | (y << 26)) ^ ((x >> 25) | (x << 7))
+    rotr(x ^ rotr(x, 5), 6) ^ rotr(x, 25)
 }
 
 fn small_sigma0(x: u32) -> u32
     ensures { λ r. ⌜ r ≡ fips.σ₀ x ⌝ }
 {
-    let y = x ^ ((x >> 11) | (x << 21));
-    ((y >> 7) | (y << 25)) ^ (x >> 3)
+    rotr(x ^ rotr(x, 11), 7) ^ (x >> 3)
 }
 
 fn small_sigma1(x: u32) -> u32
     ensures { λ r. ⌜ r ≡ fips.σ₁ x ⌝ }
 {
-    let y = x ^ ((x >> 2) | (x << 30));
-    ((y >> 17) | (y << 15)) ^ (x >> 10)
+    rotr(x ^ rotr(x, 2), 17) ^ (x >> 10)
 }
 
 // 3.2: addition modulo 2^32.
