@@ -132,7 +132,8 @@ enum { READ_HEADER, CHECK_IMAGE, POWER_UP, ARM, CONFIRM, SHA256, WRITE_HEADER, N
 
 enum { WRITTEN, PADDED, KINDS };
 
-/* The old board has 2 KiB for all. The two calls with a limit of their own would pass it if a block had its 64 message words again. */
+/* The old board has 2 KiB for all. The two calls with a limit of their own passed it while a block had 64 message words and a table of
+   constants on the stack. */
 enum { BOARD = 2048, DIGEST = 800, EXCHANGE = 1700 };
 
 static const struct {
@@ -171,7 +172,7 @@ static void print_all(void)
             print_bytes(what, most[PADDED][i]);
         }
         if (most[WRITTEN][i] >= calls[i].limit || most[PADDED][i] >= calls[i].limit) {
-            fail("a call takes more stack than its limit");
+            fail("a call reaches its limit of stack");
         }
     }
 }

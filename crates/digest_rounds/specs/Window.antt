@@ -9,7 +9,7 @@ use lib.ListN.{set}
 use Rattle.digest_rounds.specs.declared.Rounds.{Rounds}
 use Rattle.digest_fips180.specs.Sha256.{_!_, _⊞_, σ₀, σ₁, K, round}
 
--- The place of the word W_n in the window: one of 16.
+-- Document 02, four: the place of the word W_n in the window of 16.
 abbrev pub place : ℕ → ℕ
 place n = n % 16
 

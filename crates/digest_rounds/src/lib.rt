@@ -1,5 +1,6 @@
 // The rounds of SHA-256, each with its message word out of a window of 16 words (document 02, request four). Numbers as 4.1.2 are
-// sections of FIPS 180-4. The six functions take fewer operations here than the standard writes: proofs/Bits.antt has the laws.
+// sections of FIPS 180-4. Ch and Maj take fewer operations than the standard writes, and the rotations fewer copies of a word:
+// proofs/Bits.antt has the laws.
 ghost use mathlib.Core.Path.{_≡_};
 ghost use Prim.Native.Nat.{_<_};
 ghost use Rattle.digest_fips180.specs.Sha256 as fips;
