@@ -1,7 +1,4 @@
-use mathlib.Core.Path.{_∙_, ap}
-use mathlib.Core.List.{List}
 use native.Mathlib.Omega.{arith}
-use Prim.Native.Nat.{ℕ}
 use Rattle.digest_fips180.specs.Sha256.{words, compress}
 use Rattle.digest_rounds.proofs.Window.{same-variables, each-block-has-sixteen}
 use borrow.Author.Needs.{needs}
