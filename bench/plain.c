@@ -229,6 +229,8 @@ static inline uint32_t find_values(const uint8_t *input, size_t len, uint64_t nu
                 return refuse(numbers, TAINHOSA_TAG_REPEATED, p);
             }
             value[row] = input + p + 4;
+        } else if (type >= TAINHOSA_FIRST_CRITICAL_TYPE) {
+            return refuse(numbers, TAINHOSA_TAG_NOT_UNDERSTOOD, p);
         }
         p += 4 + length;
     }

@@ -29,7 +29,7 @@ extern "C" {
 /* ---- The version of this interface, and its number: 10000 for each major, 100 for each minor */
 
 #define TAINHOSA_VERSION_MAJOR 0
-#define TAINHOSA_VERSION_MINOR 5
+#define TAINHOSA_VERSION_MINOR 6
 #define TAINHOSA_VERSION_PATCH 0
 #define TAINHOSA_VERSION_NUMBER (TAINHOSA_VERSION_MAJOR * 10000 + TAINHOSA_VERSION_MINOR * 100 + TAINHOSA_VERSION_PATCH)
 
@@ -46,7 +46,7 @@ extern "C" {
 #define TAINHOSA_OUTSIDE_RULES 1      /* the geometry, or a buffer's length */
 #define TAINHOSA_WRONG_MAGIC 2        /* at 0 */
 #define TAINHOSA_WRONG_SIZE 3         /* firmware size 0, or more than the sectors hold; at 4 */
-#define TAINHOSA_TAG_DOES_NOT_FIT 4   /* at the tag's first byte, as 5 and 6 */
+#define TAINHOSA_TAG_DOES_NOT_FIT 4   /* at the tag's first byte, as 5, 6 and 18 */
 #define TAINHOSA_TAG_WRONG_LENGTH 5
 #define TAINHOSA_TAG_REPEATED 6
 #define TAINHOSA_NO_END 7             /* at 256 */
@@ -60,6 +60,7 @@ extern "C" {
 #define TAINHOSA_NOT_NEWER 15         /* only as the reason why an update was turned down */
 #define TAINHOSA_SHORT_HEADER 16      /* fewer than 256 bytes to read or write a header; at 0 */
 #define TAINHOSA_NO_MARK_FITS 17      /* lost flags that can't be found: under none are both images good and the update newer */
+#define TAINHOSA_TAG_NOT_UNDERSTOOD 18 /* a tag that must be understood, and of a type that is not known */
 
 /* Of a release sheet; the line, counted from 1, stands for the place. */
 #define TAINHOSA_LINE_NOT_UNDERSTOOD 101 /* no space in it */
@@ -85,6 +86,12 @@ extern "C" {
 #define TAINHOSA_TYPE_SIGNATURE 0x0020
 #define TAINHOSA_TYPE_AUTH_TYPE 0x0030
 #define TAINHOSA_TYPE_HINT 0x1000     /* the only one that may be missing */
+
+/*
+ * From this type up a tag must be understood: who does not know its type must not use the header. None of these types is known here, so
+ * that each of them is refused. A lower type that is not known is skipped. (No type has the low byte FF, which is padding there.)
+ */
+#define TAINHOSA_FIRST_CRITICAL_TYPE 0x8000
 
 /* The lengths of the values that are numbers, low byte first; those of the others stand below. */
 #define TAINHOSA_VERSION_BYTES 4
@@ -112,7 +119,9 @@ extern "C" {
 /*
  * Reads the header in the first 256 bytes of the input. What follows them is not looked at.
  * OK: numbers (6) and bytes (128) hold the header's values; without a hint its 32 bytes are 0.
- * Refused with 16, 2, 3 (size 0 only), 4, 5, 6, 7 or 8: numbers[TAINHOSA_HEADER_PLACE] is the place, all else in both is 0.
+ * Refused with 16, 2, 3 (size 0 only), 4, 18, 5, 6, 7 or 8: numbers[TAINHOSA_HEADER_PLACE] is the place, all else in both is 0. The tags
+ * are looked at one behind another, each for 4, 18, 5 and 6; the first that has one of these decides. What stands behind the end is not
+ * read.
  */
 TAINHOSA_CALL uint32_t tainhosa_read_header(const uint8_t *input, size_t input_length,
                                             uint64_t *numbers, size_t numbers_length,
@@ -146,7 +155,8 @@ TAINHOSA_CALL uint32_t tainhosa_write_header(uint8_t *out, size_t out_length,
 
 /*
  * The first tag of the header in the input from the place `at` on, whatever its type; padding is gone over. Begin at
- * TAINHOSA_FIRST_TAG, and go on at the place given back. Magic, size, and the lengths that the types ask for are not looked at.
+ * TAINHOSA_FIRST_TAG, and go on at the place given back. Magic, size, the lengths that the types ask for, and whether a tag must be
+ * understood, are not looked at.
  * OK: tag (6) holds the tag, or says that the end was found.
  * Refused with 16 (the input is below 256 bytes), 7 (`at` is 256 or above, or only padding is left) or 4: tag holds the place of
  * the refusal and the place that was passed, all else is 0. Asked again there, the end and a refusal come again.

@@ -1,5 +1,5 @@
-"""Document 01's rules for headers, images, status bytes, flags and power-up, document 02's for mending and for what the digest covers, and
-the rules of the release sheet, once more: written from the papers, with no code of the library.
+"""Document 01's rules for headers, images, status bytes, flags and power-up, document 02's for mending, for what the digest covers and for
+tags that must be understood, and the rules of the release sheet, once more: written from the papers, with no code of the library.
 
 The scripts in this folder compare what the library's programs print with what this module says.
 """
@@ -10,6 +10,8 @@ HEADER = 256
 MAGIC = bytes([0x43, 0x45, 0x52, 0x54])
 LENGTHS = {0x0001: 4, 0x0002: 8, 0x0003: 32, 0x0020: 64, 0x0030: 2, 0x1000: 32}
 DIGEST, OPTIONAL = 0x0003, 0x1000
+# From here up a type that is not known is refused, and not skipped (document 02, five).
+CRITICAL = 0x8000
 
 
 class Refused(Exception):
@@ -73,12 +75,15 @@ def read_header(data):
         raise Refused(3, 4)
     found = {}
     for p, kind, length in tags(h):
-        if kind in LENGTHS:
-            if length != LENGTHS[kind]:
-                raise Refused(5, p)
-            if kind in found:
-                raise Refused(6, p)
-            found[kind] = h[p + 4 : p + 4 + length]
+        if kind not in LENGTHS:
+            if kind >= CRITICAL:
+                raise Refused(18, p)
+            continue
+        if length != LENGTHS[kind]:
+            raise Refused(5, p)
+        if kind in found:
+            raise Refused(6, p)
+        found[kind] = h[p + 4 : p + 4 + length]
     for kind in sorted(LENGTHS):
         if kind != OPTIONAL and kind not in found:
             raise Refused(8, kind)

@@ -24,4 +24,5 @@ def settle(write, crate, what, files):
         return
     different = [name for name, text in files.items() if (folder / name).read_text() != text]
     print(f"{what}: {lines} lines, {'DIFFERENT: ' + ', '.join(different) if different else 'equal'}")
-    sys.exit(1 if different else 0)
+    if different:
+        sys.exit(1)

@@ -133,6 +133,12 @@ static void put_header(uint8_t *to, int firmware, uint32_t version, bool has_hin
     }
 }
 
+/* One more tag in a header without a hint, of no value, behind the others at 138; the digest does not cover it. Then comes the end. */
+static void put_one_more(uint8_t *header, unsigned type) {
+    put_tag(header + 138, type, 0);
+    put(header + 142, 2, 0x0000);
+}
+
 /* The header, and behind it the firmware: so many bytes of an image. */
 static size_t put_image(uint8_t *to, int firmware, uint32_t version) {
     size_t length = strlen(fips[firmware].message);
@@ -145,9 +151,9 @@ static size_t put_image(uint8_t *to, int firmware, uint32_t version) {
 
 static void constants(void) {
     EQUAL(TAINHOSA_VERSION_MAJOR, 0);
-    EQUAL(TAINHOSA_VERSION_MINOR, 5);
+    EQUAL(TAINHOSA_VERSION_MINOR, 6);
     EQUAL(TAINHOSA_VERSION_PATCH, 0);
-    EQUAL(TAINHOSA_VERSION_NUMBER, 500);
+    EQUAL(TAINHOSA_VERSION_NUMBER, 600);
     EQUAL(TAINHOSA_OK, 0);
     EQUAL(TAINHOSA_OUTSIDE_RULES, 1);
     EQUAL(TAINHOSA_WRONG_MAGIC, 2);
@@ -166,6 +172,7 @@ static void constants(void) {
     EQUAL(TAINHOSA_NOT_NEWER, 15);
     EQUAL(TAINHOSA_SHORT_HEADER, 16);
     EQUAL(TAINHOSA_NO_MARK_FITS, 17);
+    EQUAL(TAINHOSA_TAG_NOT_UNDERSTOOD, 18);
     EQUAL(TAINHOSA_LINE_NOT_UNDERSTOOD, 101);
     EQUAL(TAINHOSA_NAME_NOT_KNOWN, 102);
     EQUAL(TAINHOSA_VALUE_NOT_ALLOWED, 103);
@@ -174,6 +181,7 @@ static void constants(void) {
     EQUAL(TAINHOSA_HEADER_LENGTH, 256);
     EQUAL(TAINHOSA_PADDING, 0xFF);
     EQUAL(TAINHOSA_TYPE_END, 0x0000);
+    EQUAL(TAINHOSA_FIRST_CRITICAL_TYPE, 0x8000);
     EQUAL(TAINHOSA_SECTORS_MIN, 2);
     EQUAL(TAINHOSA_SECTORS_MAX, 512);
     EQUAL(TAINHOSA_SIZE_UNIT, 256);
@@ -394,6 +402,79 @@ static void reading(void) {
     }
 }
 
+/* From type 8000 up a tag must be understood, and none is; lower types are skipped (document 02, five). */
+static void critical_types(void) {
+    uint8_t input[256];
+    struct tainhosa_header header;
+    unsigned high;
+
+    /* None of these is in the table. */
+    for (high = 0x00; high <= 0xFF; high++) {
+        put_header(input, SHORT, 7, false);
+        put_one_more(input, high << 8 | 0x42);
+        if (high < 0x80) {
+            EQUAL(tainhosa_header_read(input, 256, &header), TAINHOSA_OK);
+            expect_values(&header, SHORT, 7, false);
+        } else {
+            REFUSED_HEADER(input, 256, TAINHOSA_TAG_NOT_UNDERSTOOD, 138);
+        }
+    }
+    put_one_more(input, 0x7FFE);
+    EQUAL(tainhosa_header_read(input, 256, &header), TAINHOSA_OK);
+    put_one_more(input, 0x8000);
+    REFUSED_HEADER(input, 256, TAINHOSA_TAG_NOT_UNDERSTOOD, 138);
+    put_one_more(input, 0xFFFE);
+    REFUSED_HEADER(input, 256, TAINHOSA_TAG_NOT_UNDERSTOOD, 138);
+
+    /* Bytes FF 80 are padding and the low byte of type 0080. */
+    put_header(input, SHORT, 7, false);
+    input[138] = 0xFF;
+    put_tag(input + 139, 0x0080, 0);
+    put(input + 143, 2, 0x0000);
+    EQUAL(tainhosa_header_read(input, 256, &header), TAINHOSA_OK);
+    expect_values(&header, SHORT, 7, false);
+
+    /* Behind padding; the first of two; a value up to the header's last byte, and no end; one that does not fit. */
+    put_header(input, SHORT, 7, false);
+    memset(input + 138, 0xFF, 2);
+    put_tag(input + 240, 0x8000, 12);
+    REFUSED_HEADER(input, 256, TAINHOSA_TAG_NOT_UNDERSTOOD, 240);
+    put_tag(input + 141, 0x9000, 95);
+    REFUSED_HEADER(input, 256, TAINHOSA_TAG_NOT_UNDERSTOOD, 141);
+    put_tag(input + 141, 0x9000, 112);
+    REFUSED_HEADER(input, 256, TAINHOSA_TAG_DOES_NOT_FIT, 141);
+    put(input + 141, 4, 0xFFFFFFFF);
+    put(input + 242, 2, 13);
+    REFUSED_HEADER(input, 256, TAINHOSA_TAG_DOES_NOT_FIT, 240);
+
+    /* Before another fault: the version is missing and the timestamp has a wrong length, or the magic or the size is wrong. */
+    put_header(input, SHORT, 7, false);
+    put(input + 8, 2, 0x8001);
+    REFUSED_HEADER(input, 256, TAINHOSA_TAG_NOT_UNDERSTOOD, 8);
+    put(input + 18, 2, 7);
+    REFUSED_HEADER(input, 256, TAINHOSA_TAG_NOT_UNDERSTOOD, 8);
+    put(input + 4, 4, 0);
+    REFUSED_HEADER(input, 256, TAINHOSA_WRONG_SIZE, 4);
+    input[0] ^= 1;
+    REFUSED_HEADER(input, 256, TAINHOSA_WRONG_MAGIC, 0);
+
+    /* Behind one: of a wrong length, repeated, or one that does not fit. Behind the end it is not read. */
+    put_header(input, SHORT, 7, false);
+    put_one_more(input, 0x8000);
+    put(input + 8, 2, 0x0030);
+    REFUSED_HEADER(input, 256, TAINHOSA_TAG_WRONG_LENGTH, 8);
+    put_header(input, SHORT, 7, false);
+    put_tag(input + 138, 0x0030, 2);
+    put_tag(input + 144, 0x8000, 0);
+    REFUSED_HEADER(input, 256, TAINHOSA_TAG_REPEATED, 138);
+    put(input + 140, 2, 200);
+    REFUSED_HEADER(input, 256, TAINHOSA_TAG_DOES_NOT_FIT, 138);
+    put_header(input, SHORT, 7, false);
+    put_tag(input + 140, 0x8000, 0);
+    EQUAL(tainhosa_header_read(input, 256, &header), TAINHOSA_OK);
+    expect_values(&header, SHORT, 7, false);
+}
+
 static void walking(void) {
     static const struct tainhosa_tag should[] = {
         {0, true, 8, TAINHOSA_TYPE_VERSION, TAINHOSA_VERSION_BYTES, 16},
@@ -443,6 +524,20 @@ static void walking(void) {
     EQUAL(row[TAINHOSA_TAG_LENGTH], 2);
     EQUAL(row[TAINHOSA_TAG_NEXT], 256);
     EQUAL(row[6], 0x5A5A5A5A5A5A5A5A);
+    put(input + 250, 2, TAINHOSA_FIRST_CRITICAL_TYPE); /* given like any other */
+    EQUAL(tainhosa_next_tag(input, 256, 8, row, 6), TAINHOSA_OK);
+    EQUAL(row[TAINHOSA_TAG_REFUSED_AT], 0);
+    EQUAL(row[TAINHOSA_TAG_FOUND], 1);
+    EQUAL(row[TAINHOSA_TAG_PLACE], 250);
+    EQUAL(row[TAINHOSA_TAG_TYPE], 0x8000);
+    EQUAL(row[TAINHOSA_TAG_LENGTH], 2);
+    EQUAL(row[TAINHOSA_TAG_NEXT], 256);
+    put(input + 250, 2, 0xFFFE);
+    EQUAL(tainhosa_tag_next(input, 256, 100, &tag), TAINHOSA_OK);
+    EQUAL(tag.found, true);
+    EQUAL(tag.place, 250);
+    EQUAL(tag.type, 0xFFFE);
+    EQUAL(tag.next, 256);
     EQUAL(tainhosa_tag_next(input, 256, 256, &tag), TAINHOSA_NO_END);
     EQUAL(tag.refused_at, 256);
     EQUAL(tag.found, false);
@@ -702,6 +797,19 @@ static void images(void) {
     large[258] ^= 0x80;
     REFUSED_IMAGE(3, 256, large, 768, TAINHOSA_WRONG_DIGEST, 256);
     REFUSED_FIRMWARE(large, 259, TAINHOSA_WRONG_DIGEST, 256);
+    put_one_more(large, 0x8000);
+    REFUSED_IMAGE(3, 256, large, 768, TAINHOSA_TAG_NOT_UNDERSTOOD, 138);
+    REFUSED_IMAGE(2, 256, large, 512, TAINHOSA_TAG_NOT_UNDERSTOOD, 138);
+    REFUSED_IMAGE(1, 256, large, 256, TAINHOSA_OUTSIDE_RULES, 0);
+    REFUSED_FIRMWARE(large, 259, TAINHOSA_TAG_NOT_UNDERSTOOD, 138);
+    REFUSED_FIRMWARE(large, 258, TAINHOSA_TAG_NOT_UNDERSTOOD, 138);
+    large[258] ^= 0x80;
+    REFUSED_IMAGE(3, 256, large, 768, TAINHOSA_TAG_NOT_UNDERSTOOD, 138);
+    REFUSED_FIRMWARE(large, 259, TAINHOSA_TAG_NOT_UNDERSTOOD, 138);
+    put_one_more(large, 0x7FFE);
+    EQUAL(tainhosa_image_check(3, 256, large, 768, &header), TAINHOSA_OK);
+    expect_values(&header, SHORT, 7, false);
+    EQUAL(tainhosa_firmware_check(large, 259, &header), TAINHOSA_OK);
     large[0] ^= 1;
     REFUSED_IMAGE(3, 256, large, 768, TAINHOSA_WRONG_MAGIC, 0);
     REFUSED_FIRMWARE(large, 259, TAINHOSA_WRONG_MAGIC, 0);
@@ -962,6 +1070,13 @@ static void turning_down(void) {
     armed(1, 2);
     put(update + 16, 2, 0x0001);
     TURNED_DOWN(UINT64_MAX, TAINHOSA_RUN, 1, TAINHOSA_TAG_WRONG_LENGTH, 16);
+    armed(1, 2);
+    put_one_more(update, 0x8000);
+    TURNED_DOWN(0, TAINHOSA_CUT, 0, TAINHOSA_TAG_NOT_UNDERSTOOD, 138);
+    TURNED_DOWN(UINT64_MAX, TAINHOSA_RUN, 1, TAINHOSA_TAG_NOT_UNDERSTOOD, 138);
+    armed(1, 2);
+    put_one_more(update, 0x7FFE);
+    POWER_UP(UINT64_MAX, TAINHOSA_RUN_ON_TEST, 21);
 
     /* Both images are bad: 12 comes after the operation that turned the update down. */
     armed(1, 2);
@@ -975,6 +1090,16 @@ static void turning_down(void) {
     EQUAL(answer.reason, TAINHOSA_WRONG_MAGIC);
     EQUAL(answer.reason_place, 0);
     EQUAL(update[STATUS], TAINHOSA_STATUS_NEW);
+    armed(1, 2);
+    put(update + 16, 2, 0x8000);
+    put_one_more(boot, 0xFFFE);
+    EQUAL(tainhosa_flash_power_up(&flash, UINT64_MAX, &answer), TAINHOSA_BAD_BOOT);
+    EQUAL(answer.outcome, TAINHOSA_REFUSED);
+    EQUAL(answer.count, 1);
+    EQUAL(answer.inner, TAINHOSA_TAG_NOT_UNDERSTOOD);
+    EQUAL(answer.inner_place, 138);
+    EQUAL(answer.reason, TAINHOSA_TAG_NOT_UNDERSTOOD);
+    EQUAL(answer.reason_place, 16);
 }
 
 static void refusals(void) {
@@ -1001,6 +1126,13 @@ static void refusals(void) {
     boot[STATUS] = TAINHOSA_STATUS_TESTING;
     put(update + 16, 2, 0x0042);
     NO_POWER_UP(TAINHOSA_NO_FALLBACK, TAINHOSA_TAG_MISSING, 0x0002);
+    put(update + 16, 2, 0x8000);
+    NO_POWER_UP(TAINHOSA_NO_FALLBACK, TAINHOSA_TAG_NOT_UNDERSTOOD, 16);
+    two_images(1, 2);
+    put_one_more(boot, 0x8000);
+    NO_POWER_UP(TAINHOSA_BAD_BOOT, TAINHOSA_TAG_NOT_UNDERSTOOD, 138);
+    put_one_more(boot, 0x7FFE);
+    POWER_UP(0, TAINHOSA_RUN, 0);
 
     two_images(1, 2);
     flash.sectors = 513;
@@ -1133,6 +1265,18 @@ static void mending(void) {
     update[20] ^= 1;
     NO_MEND(TAINHOSA_NO_MARK_FITS);
 
+    /* A tag that must be understood, in UPDATE's image or in BOOT's, has a say; a lower type in both has none. */
+    armed_and_cut(13);
+    put_one_more(boot, 0x8000);
+    NO_MEND(TAINHOSA_NO_MARK_FITS);
+    put_one_more(boot, 0x7FFE);
+    put_one_more(update, 0xFFFE);
+    NO_MEND(TAINHOSA_NO_MARK_FITS);
+    put_one_more(update, 0x0042);
+    EQUAL(tainhosa_flash_mend(&flash, &mended), TAINHOSA_OK);
+    EQUAL(mended.sector, 1);
+    EQUAL(mended.flag, TAINHOSA_FLAG_SAVED);
+
     /* No mark fits: UPDATE's firmware is damaged, BOOT's is, the versions are equal. */
     armed_and_cut(13);
     swap[0] ^= 1;
@@ -1253,6 +1397,7 @@ int main(void) {
     digests();
     writing();
     reading();
+    critical_types();
     walking();
     sheets();
     making();

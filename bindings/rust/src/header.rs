@@ -79,7 +79,7 @@ impl Rows {
 impl Header {
     /// Reads the header in the first 256 bytes; what follows them is not looked at, and the digest is not checked.
     ///
-    /// Refused with 16, 2, 3 (size 0 only), 4, 5, 6, 7 or 8.
+    /// Refused with 16, 2, 3 (size 0 only), 4, 18 (a tag that must be understood), 5, 6, 7 or 8.
     pub fn read(input: &[u8]) -> Result<Header, Refusal> {
         let mut rows = Rows::new();
         let answer = raw::read_header(input, &mut rows.numbers, &mut rows.bytes);

@@ -2,7 +2,7 @@ use crate::header::Rows;
 use crate::{raw, Geometry, Header, Refusal, HEADER_LENGTH};
 
 /// An image that was found good: its header reads, its firmware is all there, and the digest is the one that the header states. It covers
-/// the header's bytes before the digest tag, padding and tags of unknown types with them, and then the firmware.
+/// the header's bytes before the digest tag, padding and skipped tags with them, and then the firmware.
 #[derive(Clone, Debug, PartialEq, Eq)]
 pub struct Image<'a> {
     header: Header,

@@ -59,7 +59,7 @@ pub use image::Image;
 pub use power_up::{Outcome, PowerUp};
 pub use refusal::{Inner, Refusal};
 pub use sheet::Sheet;
-pub use tags::{tag_name, Tag, Tags};
+pub use tags::{tag_name, Tag, Tags, FIRST_CRITICAL_TYPE};
 pub use words::{meaning, Meaning, Place, MEANINGS};
 
 /// The bytes of a header. The firmware follows it.

@@ -3,6 +3,10 @@ use crate::{raw, Refusal};
 /// Where the first tag of a header may stand.
 const FIRST_TAG: usize = 8;
 
+/// From this type up a tag must be understood. None of these types is known, so that [`Header::read`](crate::Header::read) refuses each of
+/// them with 18; a lower type that is not known it skips.
+pub const FIRST_CRITICAL_TYPE: u16 = 0x8000;
+
 /// A tag of a header.
 #[derive(Clone, Copy, Debug, PartialEq, Eq)]
 pub struct Tag {
@@ -14,15 +18,26 @@ pub struct Tag {
     pub length: usize,
 }
 
+impl Tag {
+    /// Whether it must be understood, by its type.
+    pub fn is_critical(&self) -> bool {
+        self.kind >= FIRST_CRITICAL_TYPE
+    }
+}
+
 /// The walk over the tags of a header, of every type, up to the end or a refusal (16, 4 or 7), which is given once.
 ///
-/// Magic, size, and the lengths that the types ask for are not looked at.
+/// Magic, size, the lengths that the types ask for, and whether a tag must be understood, are not looked at.
 ///
 /// ```
+/// use tainhosa::{Tag, Tags};
+///
 /// let mut header = [0xFF; 256];
-/// header[9..15].copy_from_slice(&[0x42, 0, 0, 0, 0, 0]);
-/// let tags: Vec<_> = tainhosa::Tags::new(&header).collect();
-/// assert_eq!(tags, [Ok(tainhosa::Tag { place: 9, kind: 0x42, length: 0 })]);
+/// header[9..19].copy_from_slice(&[0x42, 0, 0, 0, 0x01, 0x80, 0, 0, 0, 0]);
+/// let tags = Tags::new(&header).collect::<Result<Vec<_>, _>>()?;
+/// assert_eq!(tags, [Tag { place: 9, kind: 0x0042, length: 0 }, Tag { place: 13, kind: 0x8001, length: 0 }]);
+/// assert!(!tags[0].is_critical() && tags[1].is_critical());
+/// # Ok::<(), tainhosa::Refusal>(())
 /// ```
 #[derive(Clone, Debug)]
 pub struct Tags<'a> {

@@ -37,7 +37,7 @@ const AGAIN: &str =
                      release sheet and its firmware.";
 
 /// Every refusal, by its number.
-pub const MEANINGS: [Meaning; 22] = [
+pub const MEANINGS: [Meaning; 23] = [
     row(
         1,
         Place::Nothing,
@@ -127,8 +127,16 @@ pub const MEANINGS: [Meaning; 22] = [
         Place::Nothing,
         "no flags fit the flash: under none are both images good and the update newer",
         "More was lost than the flags: a sector of one of the images is damaged, or the update was never newer than the image in BOOT. \
-         Or the geometry is not the printer's, or a dump is not its. Keep a copy of the flash, and write a good image to BOOT, by the \
-         way that the printer's maker has for it.",
+         Or the geometry is not the printer's, or a dump is not its, or an image has a tag that must be understood and is not known here. \
+         Keep a copy of the flash, and write a good image to BOOT, by the way that the printer's maker has for it.",
+    ),
+    row(
+        18,
+        Place::Byte,
+        "the header has a tag that must be understood, and its type is not known here",
+        "What the tag states may matter for the release's safety, so that the image is not used without it. Get a newer version of this \
+         program, or of the printer's loader, that knows the type; or have the image made without the tag. If nobody put such a tag \
+         there, the header was damaged: get the file again.",
     ),
     row(
         101,

@@ -19,7 +19,7 @@ use Rattle.header_places.specs.Table.{TagTable}
 use Rattle.header_places.specs.Judging.{rowOf, judge, placesIn}
 use Rattle.header_places.specs.RuledOut.{InRow}
 use Rattle.header_places.specs.Before.{RowStands, PlacesAreTags, TagsHavePlaces, RequiredAreSeen, TagEnds, TagsBefore}
-use Rattle.header_places.proofs.RuledOut.{row-is, row-type, row-all, other-tag, length-tag, repeated-tag, taken-tag}
+use Rattle.header_places.proofs.RuledOut.{row-of, row-type, row-all, other-tag, critical-tag, length-tag, repeated-tag, taken-tag}
 use Rattle.header_places.proofs.Judged.{Goes, begun}
 
 -- ---- one tag
@@ -41,20 +41,21 @@ record Step (T : TagTable) (seen : List ℕ) (q t n : ℕ) : Type 0 where
 step-of : (T : TagTable) (seen places : List ℕ) (q t n : ℕ) (rest : Tags) (r : ℕ) → rowOf (T .types) t ≡ r → length seen ≡ length (T .types)
     → judge T seen (more q t n rest) ≡ gives places → Step T seen q t n
 step-of T seen places q t n rest r is rows e =
-    go (decLt r (length (T .types))) (ℕ-discrete n (getD (T .lengths) r 0)) (ℕ-discrete (getD seen r 0) 0)
+    go (decLt r (length (T .types))) (ℕ-discrete n (getD (T .lengths) r 0)) (ℕ-discrete (getD seen r 0) 0) (decLt t (T .critical))
   where
-    go : Dec (r < length (T .types)) → Dec (n ≡ getD (T .lengths) r 0) → Dec (getD seen r 0 ≡ 0) → Step T seen q t n
-    go (no a) b d =
+    go : Dec (r < length (T .types)) → Dec (n ≡ getD (T .lengths) r 0) → Dec (getD seen r 0 ≡ 0) → Dec (t < T .critical) → Step T seen q t n
+    go (no a) b d (yes low) =
         record {
           after = seen;
           sized = rows;
-          goes = λ rest. other-tag T seen q t n rest is (omega arith);
+          goes = λ rest. other-tag T seen q t n rest is (omega arith) low;
           row = λ i. stays refl;
           own = λ lt. absurd (omega (arith, is));
         }
-    go (yes a) (no b) d = refused-gives (sym (length-tag T seen q t n rest is a b) ∙ e)
-    go (yes a) (yes b) (no d) = refused-gives (sym (repeated-tag T seen q t n rest is a b d) ∙ e)
-    go (yes a) (yes b) (yes d) =
+    go (no a) b d (no high) = refused-gives (sym (critical-tag T seen q t n rest is (omega arith) (omega arith)) ∙ e)
+    go (yes a) (no b) d f = refused-gives (sym (length-tag T seen q t n rest is a b) ∙ e)
+    go (yes a) (yes b) (no d) f = refused-gives (sym (repeated-tag T seen q t n rest is a b d) ∙ e)
+    go (yes a) (yes b) (yes d) f =
         record {
           after = set seen r q;
           sized = length-set seen r q ∙ rows;
@@ -118,17 +119,17 @@ started : {T : TagTable} {h places : List ℕ} → placesIn T h ≡ gives places
 started {T} e = tag-by-tag (omega arith) (length-replicate (length (T .types)) 0) (begun-on e)
 
 -- behind the end no tag is given
-abbrev some : Tags → ℕ
+abbrev pub some : Tags → ℕ
 some ended = 0
 some (broken n p) = 0
 some (more q t n rest) = 1
 
-no-more : {g : Tags} {q t : ℕ} → some g ≡ 0 → Walked g q t → ⊥
+pub no-more : {g : Tags} {q t : ℕ} → some g ≡ 0 → Walked g q t → ⊥
 no-more e (here q t n rest) = absurd (omega arith)
 no-more e (behind q t p k n rest w) = absurd (omega arith)
 
 -- a tag that is given is the first one, or given behind it
-first-or-behind : {g : Tags} {x u q t n : ℕ} {rest : Tags} → Walked g x u → g ≡ more q t n rest → ((x ≡ q) × (u ≡ t)) ⊎ Walked rest x u
+pub first-or-behind : {g : Tags} {x u q t n : ℕ} {rest : Tags} → Walked g x u → g ≡ more q t n rest → ((x ≡ q) × (u ≡ t)) ⊎ Walked rest x u
 first-or-behind {q = q} {t = t} (here x u k l) e = let a : x ≡ q = cc in let b : u ≡ t = cc in inl (a, b)
 first-or-behind {rest = rest} (behind x u p k n l w) e = let same : l ≡ rest = cc in inr (subst (λ (m : Tags). Walked m x u) same w)
 
@@ -257,7 +258,7 @@ places-are-tags T h places q e a =
     let w = later q (started e) (zeros (length (T .types)) q) a in record { begins = w .from; stands = w .stands; walked = w .walked }
 
 pub tags-have-places : TagsHavePlaces
-tags-have-places T h places q t r e w i = has-place q t r (started e) w (row-is (T .types) t r (i .row) (i .here) (i .before)) (i .row)
+tags-have-places T h places q t r e w i = has-place q t r (started e) w (row-of i) (i .row)
 
 -- a tag of the table that the walk gives has a place that is not 0
 pub tag-begins : (T : TagTable) (h places : List ℕ) (q t r : ℕ) → placesIn T h ≡ gives places → Walked (tagsAt h firstTag) q t → InRow T t r → 0 < q

@@ -1,7 +1,7 @@
 -- What the table makes of a tag, and of the end. Assumes nothing.
-use mathlib.Core.Path.{_≡_, refl, sym, ap, _∙_}
+use mathlib.Core.Path.{_≡_, sym, ap, _∙_}
 use Prim.Native.Nat.{ℕ, suc, _+_, _<_, _≤_}
-use mathlib.Core.List.{List, [], _∷_}
+use mathlib.Core.List.{List}
 use native.Mathlib.Numerals.{add-one}
 use lib.ListN.{length, getD, drop, take, set, replicate, drop-of-length-le}
 use lib.Seq.{drop-cons}
@@ -13,7 +13,7 @@ use Rattle.header_tags.specs.declared.Tag.the-variants.{Found, End, TooShort, D
 use Rattle.header_tags.proofs.Laws.{tags-step, next-within}
 use Rattle.header_places.specs.Table.{TagTable}
 use Rattle.header_places.specs.Judging.{rowOf, judge, placesIn}
-use Rattle.header_places.proofs.RuledOut.{other-tag, length-tag, repeated-tag, taken-tag}
+use Rattle.header_places.proofs.RuledOut.{other-tag, critical-tag, length-tag, repeated-tag, taken-tag}
 
 module _ (l : List ℕ) (x i : ℕ) where
   pub row-here : i < length l → getD l i 0 ≡ x → rowOf (drop i l) x ≡ 0
@@ -52,8 +52,11 @@ module _ {T : TagTable} {seen h : List ℕ} {at : ℕ} {O : Answer (List ℕ)} {
   tag-in = next-within h at (sym g ∙ ap itemOf e)
 
   module _ {r : ℕ} (row : r ≡ rowOf (T .types) k) where
-    pub skipped : length (T .types) ≤ r → Goes T seen h (q + 4 + n) O
-    skipped a = record { is = sym (other-tag T seen q k n _ (sym row) a) ∙ first inv g e }
+    pub skipped : length (T .types) ≤ r → k < T .critical → Goes T seen h (q + 4 + n) O
+    skipped a b = record { is = sym (other-tag T seen q k n _ (sym row) a b) ∙ first inv g e }
+
+    pub not-understood : length (T .types) ≤ r → T .critical ≤ k → refused 18 q ≡ O
+    not-understood a b = sym (critical-tag T seen q k n _ (sym row) a b) ∙ first inv g e
 
     pub wrong-length : r < length (T .types) → (n ≡ getD (T .lengths) r 0 → ⊥) → refused 5 q ≡ O
     wrong-length a b = sym (length-tag T seen q k n _ (sym row) a b) ∙ first inv g e

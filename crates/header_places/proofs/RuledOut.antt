@@ -15,7 +15,7 @@ use Rattle.header_tags.specs.Padding.{WalkNumber, doesNotFit, noEnd}
 use Rattle.header_tags.proofs.Padding.{walk-gives-its-numbers, number-same, place-same, gives-refused}
 use Rattle.header_places.specs.Table.{TagTable}
 use Rattle.header_places.specs.Judging.{rowOf, judge, placesIn}
-use Rattle.header_places.specs.RuledOut.{InRow, TagJudged, TagsAreJudged, EndJudged, EndIsJudged, TagNumber, doesNotFit as notFitting, wrongLength as ofLength, repeated as again, noEnd as endless, missing, TagsGiveTheirNumbers}
+use Rattle.header_places.specs.RuledOut.{InRow, Known, Unknown, TagJudged, TagsAreJudged, EndJudged, EndIsJudged, TagNumber, doesNotFit as notFitting, wrongLength as ofLength, repeated as again, notUnderstood, noEnd as endless, missing, TagsGiveTheirNumbers}
 
 -- ---- the row of a type
 
@@ -43,24 +43,49 @@ row-type (y ∷ l) t a = go (λ b. row-type l t b) (eqb y t) refl a
     go ih true x a = eqb-true y t x
     go ih false x a = ih (omega arith)
 
+-- no entry before a type's row is the type
+pub row-before : (l : List ℕ) (t i : ℕ) → i < rowOf l t → getD l i 0 ≢ t
+unfolding rowOf
+row-before [] t i a e = absurd (omega arith)
+row-before (y ∷ l) t i a e = go (λ k b. row-before l t k b) (eqb y t) refl i a e
+  where
+    go : ((k : ℕ) → k < rowOf l t → getD l k 0 ≢ t) → (z : Bool) → eqb y t ≡ z → (k : ℕ)
+        → k < (elim z as (λ (_ : Bool). ℕ) [ true ↦ 0 | false ↦ suc (rowOf l t) ]) → getD (y ∷ l) k 0 ≢ t
+    go ih true x k a e = absurd (omega arith)
+    go ih false x zero a e = absurd (true≢false (sym (eq-eqb y t e) ∙ x))
+    go ih false x (suc k) a e = ih k (omega arith) e
+
 -- where a type has no row, no entry is the type
 pub row-all : (l : List ℕ) (t : ℕ) → length l ≤ rowOf l t → (r : ℕ) → r < length l → getD l r 0 ≢ t
-unfolding rowOf
-row-all [] t a r b e = absurd (omega arith)
-row-all (y ∷ l) t a r b e = go (λ c i d. row-all l t c i d) (eqb y t) refl a r b e
-  where
-    go : (length l ≤ rowOf l t → (i : ℕ) → i < length l → getD l i 0 ≢ t) → (z : Bool) → eqb y t ≡ z
-        → suc (length l) ≤ (elim z as (λ (_ : Bool). ℕ) [ true ↦ 0 | false ↦ suc (rowOf l t) ]) → (i : ℕ) → i < suc (length l) → getD (y ∷ l) i 0 ≢ t
-    go ih true x a i b e = absurd (omega arith)
-    go ih false x a zero b e = absurd (true≢false (sym (eq-eqb y t e) ∙ x))
-    go ih false x a (suc i) b e = ih (omega arith) i (omega arith) e
+row-all l t a r b = row-before l t r (omega arith)
+
+-- a type is known exactly if it has a row
+pub known : (T : TagTable) (t : ℕ) → rowOf (T .types) t < length (T .types) → Known T t
+known T t a = record { row = rowOf (T .types) t; below = a; here = row-type (T .types) t a }
+
+pub not-known : (T : TagTable) (t : ℕ) → Unknown T t → length (T .types) ≤ rowOf (T .types) t
+not-known T t f = row-none (T .types) t (λ r a e. f (record { row = r; below = a; here = e }))
+
+pub unknown : (T : TagTable) (t : ℕ) → length (T .types) ≤ rowOf (T .types) t → Unknown T t
+unknown T t a k = row-all (T .types) t a (k .row) (k .below) (k .here)
+
+-- and its row is the first that has it
+pub in-row : (T : TagTable) (t : ℕ) → rowOf (T .types) t < length (T .types) → InRow T t (rowOf (T .types) t)
+in-row T t a = record { row = a; here = row-type (T .types) t a; before = row-before (T .types) t }
+
+pub row-of : {T : TagTable} {t r : ℕ} → InRow T t r → rowOf (T .types) t ≡ r
+row-of {T} {t} {r} i = row-is (T .types) t r (i .row) (i .here) (i .before)
 
 -- ---- a tag, judged
 
 module _ (T : TagTable) (seen : List ℕ) (q t n : ℕ) (rest : Tags) {r : ℕ} (row : rowOf (T .types) t ≡ r) where
-  pub other-tag : length (T .types) ≤ r → judge T seen (more q t n rest) ≡ judge T seen rest
+  pub other-tag : length (T .types) ≤ r → t < T .critical → judge T seen (more q t n rest) ≡ judge T seen rest
   unfolding judge
-  other-tag a = simp (row, le-ltb _ _ a)
+  other-tag a b = simp (row, le-ltb _ _ a, lt-ltb _ _ b)
+
+  pub critical-tag : length (T .types) ≤ r → T .critical ≤ t → judge T seen (more q t n rest) ≡ refused 18 q
+  unfolding judge
+  critical-tag a b = simp (row, le-ltb _ _ a, le-ltb _ _ b)
 
   module _ (a : r < length (T .types)) where
     pub length-tag : n ≢ getD (T .lengths) r 0 → judge T seen (more q t n rest) ≡ refused 5 q
@@ -78,14 +103,12 @@ module _ (T : TagTable) (seen : List ℕ) (q t n : ℕ) (rest : Tags) {r : ℕ} 
 pub tags-are-judged : TagsAreJudged
 tags-are-judged T seen q t n rest =
     record {
-      other = λ f. other-tag T seen q t n rest refl (row-none (T .types) t f);
-      wrongLength = λ r i. length-tag T seen q t n rest (row i) (i .row);
-      repeated = λ r i. repeated-tag T seen q t n rest (row i) (i .row);
-      taken = λ r i. taken-tag T seen q t n rest (row i) (i .row);
+      other = λ f. other-tag T seen q t n rest refl (not-known T t f);
+      critical = λ f. critical-tag T seen q t n rest refl (not-known T t f);
+      wrongLength = λ r i. length-tag T seen q t n rest (row-of i) (i .row);
+      repeated = λ r i. repeated-tag T seen q t n rest (row-of i) (i .row);
+      taken = λ r i. taken-tag T seen q t n rest (row-of i) (i .row);
     }
-  where
-    row : {r : ℕ} → InRow T t r → rowOf (T .types) t ≡ r
-    row {r} i = row-is (T .types) t r (i .row) (i .here) (i .before)
 
 -- ---- the end, judged
 
@@ -126,12 +149,12 @@ of-walk (doesNotFit p) = notFitting p
 of-walk noEnd = endless
 
 -- what breaks a walk is one of the walk's numbers
-abbrev Breaks : ℕ → Tags → Type 0
+abbrev pub Breaks : ℕ → Tags → Type 0
 Breaks l ended = Unit {0}
 Breaks l (broken n p) = WalkNumber l n p
 Breaks l (more q t m rest) = Breaks l rest
 
-tags-break : (h : List ℕ) (n p : ℕ) → Breaks (length h) (tagsFrom h n p)
+pub tags-break : (h : List ℕ) (n p : ℕ) → Breaks (length h) (tagsFrom h n p)
 unfolding tagsFrom
 tags-break h zero p = noEnd
 tags-break h (suc n) p = go (λ q. tags-break h n q) (nextItem h p) refl
@@ -153,17 +176,28 @@ judge-number T l n p ended seen w e = go (ltb (rowOf (take (T .required) seen) 0
 judge-number T l n p (broken m q) seen w e = told e (of-walk w)
 judge-number T l n p (more q k m ts) seen w e =
     go (λ s. judge-number T l n p ts s w) (ltb (rowOf (T .types) k) (length (T .types)))
-    (eqb m (getD (T .lengths) (rowOf (T .types) k) 0)) (eqb (getD seen (rowOf (T .types) k) 0) 0) e
+    (eqb m (getD (T .lengths) (rowOf (T .types) k) 0)) (eqb (getD seen (rowOf (T .types) k) 0) 0) (ltb k (T .critical)) e
   where
-    go : ((s : List ℕ) → judge T s ts ≡ refused n p → TagNumber T l n p) → (b₁ b₂ b₃ : Bool)
-        → cond b₁ (cond b₂ (cond b₃ (judge T (set seen (rowOf (T .types) k) q) ts) (refused 6 q)) (refused 5 q)) (judge T seen ts) ≡ refused n p
+    go : ((s : List ℕ) → judge T s ts ≡ refused n p → TagNumber T l n p) → (b₁ b₂ b₃ b₄ : Bool)
+        → cond b₁ (cond b₂ (cond b₃ (judge T (set seen (rowOf (T .types) k) q) ts) (refused 6 q)) (refused 5 q)) (cond b₄ (judge T seen ts) (refused 18 q))
+        ≡ refused n p
         → TagNumber T l n p
-    go ih false b₂ b₃ e = ih seen e
-    go ih true false b₃ e = told e (ofLength q)
-    go ih true true false e = told e (again q)
-    go ih true true true e = ih (set seen (rowOf (T .types) k) q) e
+    go ih false b₂ b₃ true e = ih seen e
+    go ih false b₂ b₃ false e = told e (notUnderstood q)
+    go ih true false b₃ b₄ e = told e (ofLength q)
+    go ih true true false b₄ e = told e (again q)
+    go ih true true true b₄ e = ih (set seen (rowOf (T .types) k) q) e
 
 pub tags-give-their-numbers : TagsGiveTheirNumbers
 unfolding placesIn
 tags-give-their-numbers T h n p e =
     judge-number T (length h) n p (tagsAt h 8) (replicate (length (T .types)) 0) (tags-break h (length h - 8) 8) e
+
+-- none of them is a number of the tests before the walk
+pub beside-the-walk : {T : TagTable} {l n p : ℕ} → TagNumber T l n p → (4 ≤ n) × (n ≢ 16)
+beside-the-walk (notFitting p) = (omega arith, λ e. omega arith)
+beside-the-walk (ofLength p) = (omega arith, λ e. omega arith)
+beside-the-walk (again p) = (omega arith, λ e. omega arith)
+beside-the-walk (notUnderstood p) = (omega arith, λ e. omega arith)
+beside-the-walk endless = (omega arith, λ e. omega arith)
+beside-the-walk (missing r lt) = (omega arith, λ e. omega arith)

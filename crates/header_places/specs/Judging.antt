@@ -23,7 +23,8 @@ complete T seen =
     let r = rowOf (take (T .required) seen) 0 in
     cond (ltb r (T .required)) (refused 8 (getD (T .types) r 0)) (gives seen)
 
--- The tags in their order. For a type in the table, a wrong length is refusal 5, then a type seen before 6; other types are skipped.
+-- The tags in their order. A type of the table: a wrong length is refusal 5, then a type seen before 6. Another type is skipped below the
+-- bound, and from the bound up it is refusal 18 (document 02, five). A tag that does not fit does not come here: it is 4.
 unfoldable pub judge : TagTable → List ℕ → Tags → Answer (List ℕ)
 judge T seen ended = complete T seen
 judge T seen (broken n p) = refused n p
@@ -31,9 +32,10 @@ judge T seen (more q t n rest) =
     let r = rowOf (T .types) t in
     let skipped = judge T seen rest in
     let taken = judge T (set seen r q) rest in
+    let unknown = cond (ltb t (T .critical)) skipped (refused 18 q) in
     cond (ltb r (length (T .types)))
     (cond (eqb n (getD (T .lengths) r 0)) (cond (eqb (getD seen r 0) 0) taken (refused 6 q)) (refused 5 q))
-    skipped
+    unknown
 
 -- The places of a header's tags by a table.
 unfoldable pub placesIn : TagTable → List ℕ → Answer (List ℕ)

@@ -2,4 +2,5 @@
 pub mod Table
 pub mod Judging
 pub mod RuledOut
+pub mod Understood
 pub mod Before

@@ -16,10 +16,20 @@ pub record InRow (T : TagTable) (t r : ℕ) : Type 0 where
   pub here : getD (T .types) r 0 ≡ t
   pub before : (i : ℕ) → i < r → getD (T .types) i 0 ≢ t
 
+-- Type t is known: it stands in some row.
+pub record Known (T : TagTable) (t : ℕ) : Type 0 where
+  pub row : ℕ
+  pub below : row < length (T .types)
+  pub here : getD (T .types) row 0 ≡ t
+
+abbrev pub Unknown : TagTable → ℕ → Type 0
+Unknown T t = Known T t → ⊥
+
 -- The tag at q, of type t and length n, with `seen` before it and `rest` behind it.
 pub record TagJudged (T : TagTable) (seen : List ℕ) (q t n : ℕ) (rest : Tags) : Type 0 where
-  -- A type that stands in no row changes nothing.
-  pub other : ((r : ℕ) → r < length (T .types) → getD (T .types) r 0 ≢ t) → judge T seen (more q t n rest) ≡ judge T seen rest
+  -- A type that is not known changes nothing below the bound, and is 18 from there up.
+  pub other : Unknown T t → t < T .critical → judge T seen (more q t n rest) ≡ judge T seen rest
+  pub critical : Unknown T t → T .critical ≤ t → judge T seen (more q t n rest) ≡ refused 18 q
   -- One of the table whose value has another length than its row says is 5, also if it came before.
   pub wrongLength : (r : ℕ) → InRow T t r → n ≢ getD (T .lengths) r 0 → judge T seen (more q t n rest) ≡ refused 5 q
   -- One whose row has a place already is 6.
@@ -42,11 +52,12 @@ pub record EndJudged (T : TagTable) (seen : List ℕ) : Type 0 where
 abbrev pub EndIsJudged : Type 0
 EndIsJudged = (T : TagTable) (seen : List ℕ) → T .required ≤ length seen → EndJudged T seen
 
--- The numbers that the tags of a header of l bytes give: 4, 5 and 6 at some place, 7 at l, and 8 with a required type for the place.
+-- The numbers that the tags of a header of l bytes give: 4, 5, 6 and 18 at some place, 7 at l, and 8 with a required type for the place.
 pub data TagNumber (T : TagTable) (l : ℕ) : ℕ → ℕ → Type 0 where
   doesNotFit : (p : ℕ) → TagNumber T l 4 p
   wrongLength : (p : ℕ) → TagNumber T l 5 p
   repeated : (p : ℕ) → TagNumber T l 6 p
+  notUnderstood : (p : ℕ) → TagNumber T l 18 p
   noEnd : TagNumber T l 7 l
   missing : (r : ℕ) → r < T .required → TagNumber T l 8 (getD (T .types) r 0)
 

@@ -3,12 +3,23 @@ use header_tags::Tag;
 use numbers::HeaderOutcome;
 ghost use mathlib.Core.Path.{_≡_};
 ghost use Prim.Native.Nat.{_≤_};
-ghost use lib.ListN.{length};
-ghost use Rattle.header_places.specs.Table.{table};
+ghost use Rattle.header_places.specs.Table.{tableOf};
 ghost use Rattle.header_places.specs.Judging.{rowOf, placesIn, blank, Finds};
 
 // How many rows the table of tags has.
 pub const ROWS: usize = 6;
+
+// A table of tags: the types in rising order, the lengths of their values, and how many of the rows, from the first on, are required.
+pub struct TagTable {
+    pub types: [usize; ROWS],
+    pub lengths: [usize; ROWS],
+    pub required: usize,
+}
+
+impl TagTable {
+    // From this type up a tag has to be understood: where its type has no row, the header is refused.
+    pub const CRITICAL: usize = 0x8000;
+}
 
 // The places of the table's tags, 0 where a tag was not seen, and the outcome. The places of a refusal are blank: all 0.
 pub struct Places {
@@ -41,10 +52,13 @@ pub fn refuse(o: HeaderOutcome) -> Places
 }
 
 // The places of a header's tags by a table.
-pub fn find_places(h: &[u8], types: &[usize], lengths: &[usize], required: usize) -> Places
-    requires { ⌜ (length (now types) ≡ 6) × (length (now lengths) ≡ 6) × (required ≤ 6) ⌝ }
-    ensures { λ r. ⌜ Finds (placesIn (table (now (types .entry)) (now (lengths .entry)) required) (now (h .entry))) r ⌝ }
+pub fn find_places(h: &[u8], table: TagTable) -> Places
+    requires { ⌜ table .required ≤ 6 ⌝ }
+    ensures { λ r. ⌜ Finds (placesIn (tableOf table) (now (h .entry))) r ⌝ }
 {
+    let types = table.types;
+    let lengths = table.lengths;
+    let required = table.required;
     let mut places = [0usize; ROWS];
     let mut at = header_tags::FIRST_TAG;
     loop {
@@ -55,8 +69,8 @@ pub fn find_places(h: &[u8], types: &[usize], lengths: &[usize], required: usize
                 kind,
                 length,
             } => {
-                let row = row_of(types, kind);
-                if row < types.len() {
+                let row = row_of(&types, kind);
+                if row < ROWS {
                     if length != lengths[row] {
                         return refuse(HeaderOutcome::WrongLength(place));
                     }
@@ -64,6 +78,8 @@ pub fn find_places(h: &[u8], types: &[usize], lengths: &[usize], required: usize
                         return refuse(HeaderOutcome::Repeated(place));
                     }
                     places[row] = place;
+                } else if TagTable::CRITICAL <= kind {
+                    return refuse(HeaderOutcome::TagNotUnderstood(place));
                 }
                 at = place + 4 + length;
             }

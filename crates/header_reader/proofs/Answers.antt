@@ -11,6 +11,7 @@ use borrow.Author.Tests.{lt-ltb, le-ltb, eq-eqb, ne-eqb, ltb-false, eqb-false}
 use Rattle.numbers.specs.Answer.{Answer, gives, refused, then}
 use Rattle.header_tags.specs.Bytes.{number}
 use Rattle.header_tags.proofs.Laws.{refused-gives}
+use Rattle.header_tags.proofs.Padding.{gives-refused, number-same, place-same}
 use Rattle.numbers.specs.declared.HeaderOutcome.{HeaderOutcome}
 use Rattle.numbers.specs.declared.HeaderOutcome.the-variants.{Accepted}
 use Rattle.header_places.specs.declared.Places.{Places}
@@ -78,6 +79,29 @@ located s l e =
 pub by-places : (s : List ℕ) {a : Answer (List ℕ)} → tagPlaces s ≡ a → readHeader s ≡ then a (λ l. gives (valuesAt (take 256 s) l))
 unfolding readHeader
 by-places s e = ap (λ (a : Answer (List ℕ)). then a (λ l. gives (valuesAt (take 256 s) l))) e
+
+-- and back: what the reader gives, it gives of places
+pub record Taken (s : List ℕ) (v : Header) : Type 0 where
+  pub places : List ℕ
+  pub found : tagPlaces s ≡ gives places
+  pub is : v ≡ valuesAt (take 256 s) places
+
+module _ (s : List ℕ) where
+  pub places-refused : (n p : ℕ) → readHeader s ≡ refused n p → tagPlaces s ≡ refused n p
+  unfolding readHeader
+  places-refused n p e = go (tagPlaces s) e
+    where
+      go : (a : Answer (List ℕ)) → then a (λ l. gives (valuesAt (take 256 s) l)) ≡ refused n p → a ≡ refused n p
+      go (gives l) e = gives-refused e
+      go (refused m q) e = rw (number-same e, place-same e)
+
+  pub places-taken : (v : Header) → readHeader s ≡ gives v → Taken s v
+  unfolding readHeader
+  places-taken v e = go (tagPlaces s) refl e
+    where
+      go : (a : Answer (List ℕ)) → tagPlaces s ≡ a → then a (λ l. gives (valuesAt (take 256 s) l)) ≡ gives v → Taken s v
+      go (gives l) x e = let i : valuesAt (take 256 s) l ≡ v = cc in record { places = l; found = x; is = sym i }
+      go (refused m q) x e = refused-gives e
 
 module _ (s : List ℕ) (r : Places) (finds : Finds (tagPlaces s) r) where
   module _ (is : r .outcome ≡ Accepted) where

@@ -2,3 +2,4 @@
 pub mod BytesAt
 pub mod Answers
 pub mod Refusing
+pub mod Understood

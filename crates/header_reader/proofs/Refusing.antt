@@ -1,5 +1,6 @@
 -- When the reader refuses, and in which order. Assumes nothing.
 use mathlib.Core.Path.{_≡_, refl, sym, ap, _∙_}
+use mathlib.Core.Logic.{_≢_}
 use Prim.Native.Nat.{ℕ, _+_, _*_, _≤_, _<_}
 use mathlib.Core.List.{List}
 use native.Mathlib.Omega.{arith}
@@ -11,10 +12,9 @@ use Rattle.header_tags.specs.Bytes.{number}
 use Rattle.header_tags.proofs.Padding.{gives-refused, number-same}
 use Rattle.header_places.specs.Table.{documentTable}
 use Rattle.header_places.specs.Judging.{placesIn}
-use Rattle.header_places.specs.RuledOut.{TagNumber, doesNotFit, wrongLength, repeated, noEnd, missing}
-use Rattle.header_places.proofs.RuledOut.{tags-give-their-numbers}
+use Rattle.header_places.proofs.RuledOut.{tags-give-their-numbers, beside-the-walk}
 use Rattle.header_reader.specs.declared.Header.{Header}
-use Rattle.header_reader.specs.Reading.{magic, bytesAt, tagPlaces, valuesAt, readHeader}
+use Rattle.header_reader.specs.Reading.{magic, bytesAt, valuesAt, readHeader}
 use Rattle.header_reader.specs.Refusing.{HasMagic, HasSizeZero, ReaderRefuses, WhenReaderRefuses}
 use Rattle.header_reader.proofs.BytesAt.{num-4}
 use Rattle.header_reader.proofs.Answers.{short, no-magic, no-size, by-tags, by-places}
@@ -28,28 +28,21 @@ numberOf (refused n p) = n
 apart : {A : Type 0} {a b c : Answer Header} → c ≡ a → c ≡ b → (numberOf a ≡ numberOf b → ⊥) → A
 apart x y d = absurd (d (ap numberOf (sym x ∙ y)))
 
--- the numbers of the tags are none of the tests before them
-tags-between : {l n p : ℕ} → TagNumber documentTable l n p → (4 ≤ n) × (n ≤ 8)
-tags-between (doesNotFit p) = (omega arith, omega arith)
-tags-between (wrongLength p) = (omega arith, omega arith)
-tags-between (repeated p) = (omega arith, omega arith)
-tags-between noEnd = (omega arith, omega arith)
-tags-between (missing r lt) = (omega arith, omega arith)
-
 -- the walk's answer
 abbrev walked : List ℕ → Answer Header
 walked s = then (placesIn documentTable (take 256 s)) (λ l. gives (valuesAt (take 256 s) l))
 
-walked-between : (s : List ℕ) {n p : ℕ} → walked s ≡ refused n p → (4 ≤ n) × (n ≤ 8)
-walked-between s {n} {p} e = go (placesIn documentTable (take 256 s)) refl e
+-- its number is none of the tests before it
+walked-number : (s : List ℕ) {n p : ℕ} → walked s ≡ refused n p → (4 ≤ n) × (n ≢ 16)
+walked-number s {n} {p} e = go (placesIn documentTable (take 256 s)) refl e
   where
     go : (a : Answer (List ℕ)) → placesIn documentTable (take 256 s) ≡ a → then a (λ l. gives (valuesAt (take 256 s) l)) ≡ refused n p
-        → (4 ≤ n) × (n ≤ 8)
+        → (4 ≤ n) × (n ≢ 16)
     go (gives l) x d = gives-refused d
     go (refused m q) x d =
-        let w = tags-between (tags-give-their-numbers documentTable (take 256 s) m q x) in
+        let w = beside-the-walk (tags-give-their-numbers documentTable (take 256 s) m q x) in
         let k = number-same d in
-        (omega arith, omega arith)
+        (omega arith, λ e. w .1 (k ∙ e))
 
 -- four bytes as a number, and the number as four bytes
 module _ (s : List ℕ) (bytes : (i : ℕ) → getD s i 0 < 256) (room : 256 ≤ length s) where
@@ -59,7 +52,7 @@ module _ (s : List ℕ) (bytes : (i : ℕ) → getD s i 0 < 256) (room : 256 ≤
       num-4 (take 256 s) p (omega (arith, length-take-le 256 s room))
       (rw (getD-take 256 s p 0 (omega arith), getD-take 256 s (p + 1) 0 (omega arith), getD-take 256 s (p + 2) 0 (omega arith), getD-take 256 s (p + 3) 0 (omega arith)))
 
-  has-magic : number (bytesAt (take 256 s) 0 4) ≡ number magic → HasMagic s
+  pub has-magic : number (bytesAt (take 256 s) 0 4) ≡ number magic → HasMagic s
   has-magic e =
       let k = four 0 (omega arith) ∙ e in
       let b0 = bytes 0 in
@@ -78,7 +71,7 @@ module _ (s : List ℕ) (bytes : (i : ℕ) → getD s i 0 < 256) (room : 256 ≤
       let k = four 4 (omega arith) ∙ e in
       (omega arith, omega arith, omega arith, omega arith)
 
-  zero-there : HasSizeZero s → number (bytesAt (take 256 s) 4 4) ≡ 0
+  pub zero-there : HasSizeZero s → number (bytesAt (take 256 s) 4 4) ≡ 0
   zero-there w =
       let k = four 4 (omega arith) in
       sym k ∙ omega (arith, w .0, w .1, w .2, w .3)
@@ -122,9 +115,9 @@ module _ (s : List ℕ) where
       by-walk d =
           let is : readHeader s ≡ walked s = by-places s (by-tags s room refl m refl d) in
           record {
-            short = (λ e. absurd (let w = walked-between s (sym is ∙ e) in omega arith), λ l. absurd (omega arith));
-            magic = (λ e. absurd (let w = walked-between s (sym is ∙ e) in omega arith), λ w. absurd (w .1 (has-magic s bytes room m)));
-            zero = (λ e. absurd (let w = walked-between s (sym is ∙ e) in omega arith), λ w. absurd (d (zero-there s bytes room (w .2))));
+            short = (λ e. absurd (walked-number s (sym is ∙ e) .1 refl), λ l. absurd (omega arith));
+            magic = (λ e. absurd (let w = walked-number s (sym is ∙ e) in omega arith), λ w. absurd (w .1 (has-magic s bytes room m)));
+            zero = (λ e. absurd (let w = walked-number s (sym is ∙ e) in omega arith), λ w. absurd (d (zero-there s bytes room (w .2))));
             walk = λ r h z. is;
           }
 

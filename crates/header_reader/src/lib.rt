@@ -1,6 +1,7 @@
 // The reader of a rustBoot header: the values of its tags.
 use header_places::Places;
 use header_places::ROWS;
+use header_places::TagTable;
 use numbers::HeaderOutcome;
 ghost use mathlib.Core.Path.{_≡_};
 ghost use Prim.Native.Nat.{_+_, _*_, _≤_};
@@ -197,9 +198,12 @@ pub fn locate(s: &[u8]) -> Places
     if size == 0 {
         return header_places::refuse(HeaderOutcome::WrongSize);
     }
-    let types = TYPES;
-    let lengths = LENGTHS;
-    header_places::find_places(h, &types, &lengths, REQUIRED)
+    let table = TagTable {
+        types: TYPES,
+        lengths: LENGTHS,
+        required: REQUIRED,
+    };
+    header_places::find_places(h, table)
 }
 
 // Reads the header in the first 256 bytes of a lent buffer.

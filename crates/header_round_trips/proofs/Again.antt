@@ -1,23 +1,22 @@
 -- What was read can be written, and reads back. Assumes nothing.
-use mathlib.Core.Path.{_≡_, refl, sym, ap, _∙_}
+use mathlib.Core.Path.{_≡_, refl}
 use Prim.Native.Nat.{ℕ, _+_, _≤_, _<_}
-use mathlib.Core.List.{List, _++_}
+use mathlib.Core.List.{List}
 use mathlib.Core.Bool.{Bool, true, false, cond, not}
 use native.Mathlib.Omega.{arith}
 use native.Mathlib.Decide.{decLt}
 use lib.ListN.{length, getD, take, replicate, length-take, List·getD-eq-default}
 use lib.Seq.{length-take-le, getD-take}
 use lib.Dec.{eqb, lit<}
-use Rattle.numbers.specs.Answer.{Answer, gives, refused, then}
+use Rattle.numbers.specs.Answer.{gives}
 use Rattle.header_tags.specs.Bytes.{AllBytes, number}
-use Rattle.header_tags.proofs.Laws.{refused-gives}
 use Rattle.header_places.specs.Table.{documentTable}
 use Rattle.header_places.specs.Judging.{placesIn}
 use Rattle.header_places.proofs.Fitting.{found-within}
 use Rattle.header_reader.specs.declared.Header.{Header}
-use Rattle.header_reader.specs.Reading.{bytesAt, tagPlaces, valuesAt, readHeader}
+use Rattle.header_reader.specs.Reading.{bytesAt, valuesAt, readHeader}
 use Rattle.header_reader.proofs.BytesAt.{length-part, part-below}
-use Rattle.header_reader.proofs.Answers.{located}
+use Rattle.header_reader.proofs.Answers.{located, places-taken}
 use Rattle.header_writer.specs.Writing.{writeHeader}
 use Rattle.header_round_trips.specs.RoundTrips.{Holdable, carriedHint, carried, RoundTrip, ReadIsHoldable, ReadWriteRead}
 use Rattle.header_round_trips.proofs.Back.{write-then-read}
@@ -31,15 +30,10 @@ record Came (s : List ℕ) (v : Header) : Type 0 where
   is : v ≡ valuesAt (take 256 s) l
 
 came : (s : List ℕ) (v : Header) → readHeader s ≡ gives v → Came s v
-unfolding readHeader
-came s v e = go (tagPlaces s) refl e
-  where
-    go : (a : Answer (List ℕ)) → tagPlaces s ≡ a → then a (λ l. gives (valuesAt (take 256 s) l)) ≡ gives v → Came s v
-    go (gives l) f e =
-        let w = located s l f in
-        let i : valuesAt (take 256 s) l ≡ v = cc in
-        record { l = l; room = w .room; some = w .some; found = w .found; is = sym i }
-    go (refused n p) f e = refused-gives e
+came s v e =
+    let t = places-taken s v e in
+    let w = located s (t .places) (t .found) in
+    record { l = t .places; room = w .room; some = w .some; found = w .found; is = t .is }
 
 hint-length : (h : List ℕ) (p : ℕ) (b : Bool) → p + 4 + 32 ≤ length h → length (cond b (replicate 32 0) (bytesAt h (p + 4) 32)) ≡ 32
 hint-length h p true fits = refl

@@ -4,3 +4,4 @@ pub mod Back
 pub mod Again
 pub mod Refusing
 pub mod Marked
+pub mod Critical

@@ -77,7 +77,7 @@ with-hint n at v f e out room =
     (end-at v n (tags-length v f true 36 e l ∙ at))
 
 -- cases 8 and 9: the tags are refused, whatever the size
-refuses : (bytes : List ℕ) (n p : ℕ) → length bytes ≡ 248
+pub refuses : (bytes : List ℕ) (n p : ℕ) → length bytes ≡ 248
     → ((size : ℕ) → placesIn documentTable (magic ++ (littleEndian 4 size ++ bytes)) ≡ refused n p) → HeaderCaseHolds (refusing bytes n p)
 refuses bytes n p len tags size some fits =
     let s : List ℕ = magic ++ (littleEndian 4 size ++ bytes) in

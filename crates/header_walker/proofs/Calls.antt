@@ -100,7 +100,7 @@ module _ (s : List ℕ) (enough : 256 ≤ length s) where
 pub all-tags : AllTags
 all-tags s n e = tags-from (now s) e (startOf s) n refl
 
-padded-tags : tagsAt (take 256 paddedHeader) firstTag ≡ more 10 0x0042 1 (more 16 0x0001 0 no-more)
+padded-tags : tagsAt (take 256 paddedHeader) firstTag ≡ more 10 0x0042 1 (more 16 0x8000 0 (more 20 0x0001 0 no-more))
 unfolding tagsFrom itemFrom itemAt
 padded-tags = refl
 

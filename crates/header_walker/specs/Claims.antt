@@ -18,23 +18,24 @@ entryAt (broken m q) n = refused m q
 entryAt (more q t k rest) zero = gives (tag q t k)
 entryAt (more q t k rest) (suc n) = entryAt rest n
 
--- A new walker gives all tags of the header, one at a time and in their order, those of skipped types too, and then how the walk stops.
+-- A new walker gives all tags of the header, one at a time and in their order, those of skipped and of refused types too, and then how the walk stops.
 -- They are the tags that the reader judges.
 abbrev pub AllTags : Type 0
 AllTags = (s : RefT (List ℕ)) (n : ℕ) → 256 ≤ length (now s) → callAnswer n (startOf s) ≡ entryAt (tagsAt (take 256 (now s)) firstTag) n
 
--- So in a header with padding, a tag of a skipped type, padding and a version of a wrong length, both tags come, and then the end for ever.
+-- So in a header with padding, a tag of a skipped type, padding, a tag that has to be understood (document 02) and a version of a wrong
+-- length, all three tags come, and then the end for ever.
 abbrev pub paddedHeader : List ℕ
-paddedHeader = replicate 8 0 ++ (0xFF ∷ 0xFF ∷ 0x42 ∷ 0x00 ∷ 0x01 ∷ 0x00 ∷ 0xAA ∷ 0xFF ∷ 0x01 ∷ 0x00 ∷ 0x00 ∷ 0x00 ∷ 0x00 ∷ 0x00 ∷ replicate 234 0xFF)
+paddedHeader = replicate 8 0 ++ (0xFF ∷ 0xFF ∷ 0x42 ∷ 0x00 ∷ 0x01 ∷ 0x00 ∷ 0xAA ∷ 0xFF ∷ 0x00 ∷ 0x80 ∷ 0x00 ∷ 0x00 ∷ 0x01 ∷ 0x00 ∷ 0x00 ∷ 0x00 ∷ 0x00 ∷ 0x00 ∷ replicate 230 0xFF)
 
 abbrev pub GivesPadded : Type 0
-GivesPadded = (s : RefT (List ℕ)) (n : ℕ) → now s ≡ paddedHeader → callAnswer n (startOf s) ≡ entryAt (more 10 0x0042 1 (more 16 0x0001 0 ended)) n
+GivesPadded = (s : RefT (List ℕ)) (n : ℕ) → now s ≡ paddedHeader → callAnswer n (startOf s) ≡ entryAt (more 10 0x0042 1 (more 16 0x8000 0 (more 20 0x0001 0 ended))) n
 
 -- Over fewer than 256 bytes every call is refused with 16, at 0.
 abbrev pub TooFew : Type 0
 TooFew = (s : RefT (List ℕ)) (n : ℕ) → length (now s) < 256 → callAnswer n (startOf s) ≡ refused 16 0
 
--- Of the refusals only three numbers come: 16, at place 0; 4; and 7, at place 256. The reader's 2, 3, 5, 6 and 8 do not.
+-- Of the refusals only three numbers come: 16, at place 0; 4; and 7, at place 256. The reader's 2, 3, 5, 6, 8 and 18 do not.
 abbrev pub Offered : Answer Item → Type 0
 Offered (gives i) = Unit {0}
 Offered (refused m q) = ((m ≡ 16) × (q ≡ 0)) ⊎ ((m ≡ 4) ⊎ ((m ≡ 7) × (q ≡ 256)))

@@ -23,11 +23,11 @@ use Rattle.header_places.proofs.Before.{tags-have-places, tag-begins, tags-befo
 use Rattle.header_reader.specs.declared.Header.{Header}
 use Rattle.header_reader.specs.Reading.{bytesAt, value}
 use Rattle.header_reader.proofs.BytesAt.{part-4, part-bytes, part-below}
-use Rattle.header_reader.proofs.Answers.{located}
+use Rattle.header_reader.proofs.Answers.{Taken, places-taken, located}
 use Rattle.image.specs.Check.{covered, imageIn}
 use Rattle.image.specs.Changed.{Holds, messageOf, StatesSame, NineOrCollision, ChangedIsRefused, Change, place, size, byte, version, timestamp, firmware, EachChangeIsRefused, OneDigestOneRelease, BehindHasNoSay, ChangedCallRefuses}
 use Rattle.image.proofs.Covered.{length-covered, before, byte-before, byte-behind, all-bytes}
-use Rattle.image.proofs.Ordered.{Taken, places-taken, digest-place, each-has-digest-tag, tag-within, bytes-room, message-differs, message-same, good-message, good-as-read}
+use Rattle.image.proofs.Ordered.{digest-place, each-has-digest-tag, tag-within, bytes-room, message-differs, message-same, good-message, good-as-read}
 
 -- ---- what is known of one image
 

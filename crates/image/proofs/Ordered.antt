@@ -16,18 +16,20 @@ use Rattle.header_tags.proofs.Laws.{refused-gives}
 use Rattle.header_tags.proofs.Padding.{number-same, place-same, gives-refused}
 use Rattle.header_places.specs.Table.{documentTable}
 use Rattle.header_places.specs.Judging.{placesIn}
-use Rattle.header_places.specs.RuledOut.{TagNumber, doesNotFit as notFitting, wrongLength as ofLength, repeated as again, noEnd as endless, missing}
 use Rattle.header_tags.specs.Standing.{TagAt}
 use Rattle.header_places.specs.RuledOut.{InRow}
 use Rattle.header_places.proofs.RuledOut.{tags-give-their-numbers}
 use Rattle.header_places.proofs.Before.{places-are-tags, required-are-seen, tags-have-places}
 use Rattle.header_reader.specs.declared.Header.{Header}
-use Rattle.header_reader.specs.Reading.{magic, bytesAt, tagPlaces, valuesAt, readHeader}
+use Rattle.header_reader.specs.Reading.{magic, bytesAt, tagPlaces, readHeader}
 use Rattle.header_tags.specs.Bytes.{same}
+use Rattle.flash.specs.Sectors.{firmwareOf}
+use Rattle.image.specs.Verdict.{checkOf, CheckedIsUnderstood}
 use Rattle.image.specs.Check.{valuesIn, covered, coveredIn, judged, imageIn}
-use Rattle.image.specs.Ordered.{Covers, EachHasDigestTag, CheckOrdered, ChecksInOrder, ImageNumber, wrongMagic, wrongSize, doesNotFit, wrongLength, repeated, noEnd, noVersion, noTimestamp, noDigest, noSignature, noAuthType, wrongDigest, tooShort, ChecksGiveTheirNumbers}
+use Rattle.image.specs.Ordered.{Covers, EachHasDigestTag, CheckOrdered, ChecksInOrder, ImageNumber, wrongMagic, wrongSize, ofTags, wrongDigest, tooShort, ChecksGiveTheirNumbers, GoodIsUnderstood}
 use Rattle.header_tags.proofs.Same.{same-is, same-true}
-use Rattle.header_reader.proofs.Answers.{located, by-places}
+use Rattle.header_reader.proofs.Answers.{located, Taken, places-refused, places-taken}
+use Rattle.header_reader.proofs.Understood.{taken-low}
 use Rattle.image.proofs.Covered.{covers-is}
 
 -- ---- the test of two digests
@@ -52,36 +54,14 @@ digest-row = record { row = lit< tt; here = refl; before = other }
 
 -- ---- the order
 
--- what the reader gives, it gives of places
-pub record Taken (b : List ℕ) (v : Header) : Type 0 where
-  pub places : List ℕ
-  pub found : tagPlaces b ≡ gives places
-  pub is : v ≡ valuesIn b places
-
 module _ (b : List ℕ) where
-  places-refused : (n p : ℕ) → readHeader b ≡ refused n p → tagPlaces b ≡ refused n p
-  unfolding readHeader
-  places-refused n p e = go (tagPlaces b) e
-    where
-      go : (a : Answer (List ℕ)) → then a (λ l. gives (valuesAt (take 256 b) l)) ≡ refused n p → a ≡ refused n p
-      go (gives l) e = gives-refused e
-      go (refused m q) e = rw (number-same e, place-same e)
-
-  pub places-taken : (v : Header) → readHeader b ≡ gives v → Taken b v
-  unfolding readHeader
-  places-taken v e = go (tagPlaces b) refl e
-    where
-      go : (a : Answer (List ℕ)) → tagPlaces b ≡ a → then a (λ l. gives (valuesAt (take 256 b) l)) ≡ gives v → Taken b v
-      go (gives l) x e = let i : valuesAt (take 256 b) l ≡ v = cc in record { places = l; found = x; is = sym i }
-      go (refused m q) x e = refused-gives e
-
   reader-first : (n p : ℕ) → readHeader b ≡ refused n p → imageIn b ≡ refused n p
   unfolding imageIn
-  reader-first n p e = simp (places-refused n p e)
+  reader-first n p e = simp (places-refused b n p e)
 
   module _ (v : Header) (e : readHeader b ≡ gives v) where
     abbrev t : Taken b v
-    t = places-taken v e
+    t = places-taken b v e
 
     too-large : length b - 256 < v .size → imageIn b ≡ refused 3 4
     unfolding imageIn
@@ -108,7 +88,7 @@ module _ (b : List ℕ) where
   -- a good image gives what the reader gives
   pub good-as-read : (v : Header) {u : Header} → readHeader b ≡ gives v → imageIn b ≡ gives u → imageIn b ≡ gives v
   unfolding imageIn
-  good-as-read v {u} read e = let t = places-taken v read in on (t .places) (t .found) (t .is)
+  good-as-read v {u} read e = let t = places-taken b v read in on (t .places) (t .found) (t .is)
     where
       on : (l : List ℕ) → tagPlaces b ≡ gives l → v ≡ valuesIn b l → imageIn b ≡ gives v
       on l found is =
@@ -127,7 +107,7 @@ module _ (b : List ℕ) where
 
   module _ (at : ℕ) (v : Header) (read : readHeader b ≡ gives v) (tag : TagAt b at 0x0003) where
     abbrev k : Taken b v
-    k = places-taken v read
+    k = places-taken b v read
 
     -- what is known of a header that is read, by the places of its tags
     pub message-is : coveredIn b (k .places) ≡ covered b at (v .size)
@@ -188,6 +168,23 @@ each-has-digest-tag b v read =
       within = omega (arith, f .within .fits 2 (lit< tt));
     }
 
+-- ---- which tags a good image has
+
+pub good-is-understood : GoodIsUnderstood
+good-is-understood b v q t e w = go (readHeader b) refl
+  where
+    go : (a : Answer Header) → readHeader b ≡ a → t < 0x8000
+    go (gives u) x = taken-low b u q t x w
+    go (refused n p) x = refused-gives (sym (reader-first b n p x) ∙ e)
+
+pub checked-is-understood : CheckedIsUnderstood
+unfolding checkOf
+checked-is-understood g l n q t e w = go (imageIn (firmwareOf g l)) refl e
+  where
+    go : (a : Answer Header) → imageIn (firmwareOf g l) ≡ a → then a (λ v. gives (v .version)) ≡ gives n → t < 0x8000
+    go (gives v) x e = good-is-understood (firmwareOf g l) v q t x w
+    go (refused m p) x e = refused-gives e
+
 -- ---- the numbers
 
 told : {A : Type 0} {m p n q : ℕ} → _≡_ {A = Answer A} (refused m p) (refused n q) → ImageNumber m p → ImageNumber n q
@@ -195,21 +192,6 @@ told {m = m} {p = p} e w =
     let a = number-same e in
     let b = place-same e in
     rw (a, b) at w
-
-missing-type : (r : ℕ) → r < 5 → ImageNumber 8 (getD (documentTable .types) r 0)
-missing-type zero lt = noVersion
-missing-type (suc zero) lt = noTimestamp
-missing-type (suc (suc zero)) lt = noDigest
-missing-type (suc (suc (suc zero))) lt = noSignature
-missing-type (suc (suc (suc (suc zero)))) lt = noAuthType
-missing-type (suc (suc (suc (suc (suc r))))) lt = absurd (omega arith)
-
-of-tags : {l n p : ℕ} → l ≡ 256 → TagNumber documentTable l n p → ImageNumber n p
-of-tags e (notFitting p) = doesNotFit p
-of-tags e (ofLength p) = wrongLength p
-of-tags e (again p) = repeated p
-of-tags e endless = rw e noEnd
-of-tags e (missing r lt) = missing-type r lt
 
 reader-number : (b : List ℕ) (n p : ℕ) → tagPlaces b ≡ refused n p → ImageNumber n p
 unfolding tagPlaces
@@ -223,7 +205,7 @@ reader-number b n p e =
     go false false b₃ x e = told e wrongMagic
     go false true true x e = told e wrongSize
     go false true false x e =
-        of-tags (length-take-le 256 b (ltb-false _ _ x)) (tags-give-their-numbers documentTable (take 256 b) n p e)
+        ofTags (rw (length-take-le 256 b (ltb-false _ _ x)) at (tags-give-their-numbers documentTable (take 256 b) n p e))
 
 pub checks-give-their-numbers : ChecksGiveTheirNumbers
 unfolding imageIn

@@ -9,6 +9,8 @@ use Rattle.numbers.specs.Answer.{gives, refused}
 use Rattle.digest_fips180.specs.Sha256.{sha256}
 use Rattle.header_reader.specs.declared.Header.{Header}
 use Rattle.header_tags.specs.Standing.{TagAt}
+use Rattle.header_places.specs.Table.{documentTable}
+use Rattle.header_places.specs.RuledOut.{TagNumber}
 use Rattle.header_reader.specs.Reading.{readHeader}
 use Rattle.image.specs.Check.{covered, imageIn}
 
@@ -52,21 +54,17 @@ pub record CheckOrdered (b : List ℕ) : Type 0 where
 abbrev pub ChecksInOrder : Type 0
 ChecksInOrder = (b : List ℕ) → CheckOrdered b
 
--- The numbers of a bad image, with their places. 8 stands beside the missing type.
+-- So a good image has no tag of a type from 8000 up (document 02, "Tags that must be understood").
+abbrev pub GoodIsUnderstood : Type 0
+GoodIsUnderstood = (b : List ℕ) (v : Header) (q t : ℕ) → imageIn b ≡ gives v → TagAt b q t → t < 0x8000
+
+-- The numbers of a bad image, with their places: those of the tests before the walk, those of the header's tags, and the digest's.
 pub data ImageNumber : ℕ → ℕ → Type 0 where
+  tooShort : ImageNumber 16 0
   wrongMagic : ImageNumber 2 0
   wrongSize : ImageNumber 3 4
-  doesNotFit : (p : ℕ) → ImageNumber 4 p
-  wrongLength : (p : ℕ) → ImageNumber 5 p
-  repeated : (p : ℕ) → ImageNumber 6 p
-  noEnd : ImageNumber 7 256
-  noVersion : ImageNumber 8 0x0001
-  noTimestamp : ImageNumber 8 0x0002
-  noDigest : ImageNumber 8 0x0003
-  noSignature : ImageNumber 8 0x0020
-  noAuthType : ImageNumber 8 0x0030
+  ofTags : {n p : ℕ} → TagNumber documentTable 256 n p → ImageNumber n p
   wrongDigest : ImageNumber 9 256
-  tooShort : ImageNumber 16 0
 
 abbrev pub ChecksGiveTheirNumbers : Type 0
 ChecksGiveTheirNumbers = (b : List ℕ) (n p : ℕ) → imageIn b ≡ refused n p → ImageNumber n p

@@ -1,10 +1,11 @@
 -- Document 01, "Image check", as power-up and the calls beside it use it: what they need of a good image, and a bad one's number.
 use mathlib.Core.Path.{_≡_}
-use Prim.Native.Nat.{ℕ}
+use Prim.Native.Nat.{ℕ, _<_}
 use mathlib.Core.List.{List}
 use Rattle.numbers.specs.Answer.{Answer, gives, refused, then}
 use Rattle.flash.specs.declared.Geometry.{Geometry}
 use Rattle.flash.specs.Sectors.{firmwareOf}
+use Rattle.header_tags.specs.Standing.{TagAt}
 use Rattle.header_reader.specs.declared.Header.{Header}
 use Rattle.numbers.specs.declared.ImageOutcome.{ImageOutcome}
 use Rattle.numbers.specs.declared.ImageOutcome.the-variants.{Good as GoodImage}
@@ -26,6 +27,11 @@ released a = then a (λ v. gives (releaseOf v))
 -- no say.
 unfoldable pub checkOf : Geometry → List ℕ → Answer ℕ
 checkOf g l = then (imageIn (firmwareOf g l)) (λ v. gives (v .version))
+
+-- So a partition that checks has no tag of a type from 8000 up (document 02, "Tags that must be understood"): power-up runs, and mending
+-- fits, no image that has one. Proved in proofs/.
+abbrev pub CheckedIsUnderstood : Type 0
+CheckedIsUnderstood = (g : Geometry) (l : List ℕ) (n q t : ℕ) → checkOf g l ≡ gives n → TagAt (firmwareOf g l) q t → t < 0x8000
 
 -- "Numbers given back", what the code's verdict says: a good image's release, or a bad one's own number and place.
 abbrev pub verdictOf : ImageVerdict → Answer Release

@@ -4,7 +4,7 @@ use Prim.Native.Nat.{ℕ}
 use mathlib.Core.List.{List, [], _∷_}
 use Rattle.numbers.specs.Answer.{Answer, gives, refused}
 use Rattle.numbers.specs.declared.HeaderOutcome.{HeaderOutcome}
-use Rattle.numbers.specs.declared.HeaderOutcome.the-variants.{Accepted, TooShort, WrongMagic, WrongSize, TagDoesNotFit, WrongLength, Repeated, NoEnd, Missing}
+use Rattle.numbers.specs.declared.HeaderOutcome.the-variants.{Accepted, TooShort, WrongMagic, WrongSize, TagDoesNotFit, TagNotUnderstood, WrongLength, Repeated, NoEnd, Missing}
 use Rattle.numbers.specs.declared.SheetOutcome.{SheetOutcome}
 use Rattle.numbers.specs.declared.SheetOutcome.the-variants.{Accepted as SheetAccepted, NotUnderstood, UnknownName, BadValue, RepeatedName, MissingName}
 use Rattle.numbers.specs.GivenBack.{beside, refusalOf, headerSays, badHeader, sheetSays}
@@ -36,6 +36,7 @@ refusing TooShort x = refuses 16 0 refl
 refusing WrongMagic x = refuses 2 0 refl
 refusing WrongSize x = refuses 3 4 refl
 refusing (TagDoesNotFit p) x = refuses 4 p refl
+refusing (TagNotUnderstood p) x = refuses 18 p refl
 refusing (WrongLength p) x = refuses 5 p refl
 refusing (Repeated p) x = refuses 6 p refl
 refusing (NoEnd p) x = refuses 7 p refl
@@ -43,7 +44,7 @@ refusing (Missing t) x = refuses 8 t refl
 
 -- the cases of the reader's outcome behind `Accepted`, as an `else` branch lists them
 abbrev pub otherOutcomes : List ℕ
-otherOutcomes = 1 ∷ 2 ∷ 3 ∷ 4 ∷ 5 ∷ 6 ∷ 7 ∷ 8 ∷ []
+otherOutcomes = 1 ∷ 2 ∷ 3 ∷ 4 ∷ 5 ∷ 6 ∷ 7 ∷ 8 ∷ 9 ∷ []
 
 -- the same of a release sheet
 pub sheet-refusing : (o : SheetOutcome) → (o ≡ SheetAccepted → ⊥) → Refusing (sheetSays o)

@@ -3,7 +3,7 @@
 use Prim.Native.Nat.{ℕ}
 use Rattle.numbers.specs.Answer.{Answer, gives, refused, Refusal, numbered, inside, Reason, noReason, because}
 use Rattle.numbers.specs.declared.HeaderOutcome.{HeaderOutcome}
-use Rattle.numbers.specs.declared.HeaderOutcome.the-variants.{Accepted, TooShort, WrongMagic, WrongSize, TagDoesNotFit, WrongLength, Repeated, NoEnd, Missing}
+use Rattle.numbers.specs.declared.HeaderOutcome.the-variants.{Accepted, TooShort, WrongMagic, WrongSize, TagDoesNotFit, TagNotUnderstood, WrongLength, Repeated, NoEnd, Missing}
 use Rattle.numbers.specs.declared.WriteOutcome.{WriteOutcome}
 use Rattle.numbers.specs.declared.WriteOutcome.the-variants.{Written, TooShort as OutputTooShort, WrongSize as OutputSize}
 use Rattle.numbers.specs.declared.ImageOutcome.{ImageOutcome}
@@ -37,15 +37,16 @@ abbrev pub refusalOf : {A : Type 0} → Answer A → Refused
 refusalOf (gives a) = refusedAt 0 0
 refusalOf (refused n p) = refusedAt n p
 
--- ---- the reader: 2 to 8 and 16
+-- ---- the reader: 2 to 8, 16 and 18
 
--- The place of 4, 5 and 6 is the tag's first byte, that of 7 the header's length; at 8 the missing type stands for the place.
+-- The place of 4, 5, 6 and 18 is the tag's first byte, that of 7 the header's length; at 8 the missing type stands for the place.
 abbrev pub headerSays : HeaderOutcome → Answer (Unit {0})
 headerSays Accepted = gives tt
 headerSays TooShort = refused 16 0
 headerSays WrongMagic = refused 2 0
 headerSays WrongSize = refused 3 4
 headerSays (TagDoesNotFit p) = refused 4 p
+headerSays (TagNotUnderstood p) = refused 18 p
 headerSays (WrongLength p) = refused 5 p
 headerSays (Repeated p) = refused 6 p
 headerSays (NoEnd p) = refused 7 p

@@ -13,6 +13,8 @@ pub enum HeaderOutcome {
     // The firmware's size is 0; in an image also: more than its sectors hold.
     WrongSize,
     TagDoesNotFit(usize),
+    // The tag at this place has a type that has to be known, and is not.
+    TagNotUnderstood(usize),
     WrongLength(usize),
     Repeated(usize),
     NoEnd(usize),
@@ -118,6 +120,7 @@ pub fn of_header(o: HeaderOutcome) -> Refused
         HeaderOutcome::WrongMagic => refuse(2, 0),
         HeaderOutcome::WrongSize => refuse(3, 4),
         HeaderOutcome::TagDoesNotFit(p) => refuse(4, p),
+        HeaderOutcome::TagNotUnderstood(p) => refuse(18, p),
         HeaderOutcome::WrongLength(p) => refuse(5, p),
         HeaderOutcome::Repeated(p) => refuse(6, p),
         HeaderOutcome::NoEnd(p) => refuse(7, p),

@@ -87,18 +87,20 @@ fn any_place(r: &mut Random) -> usize {
     r.pick(&[0, 8, near, near, near, end, behind, 300, far, last, (1 << 32) + 8, 1 << 63])
 }
 
-/// The walk from the first tag to its end or refusal, which is asked for once more.
-fn walk(c: &mut Compare, r: &mut Random, input: &[u8]) {
-    let (mut at, mut ends) = (8, 0);
+/// The walk from the first tag to its end or refusal, which is asked for once more: the answers and their rows.
+pub fn walk(c: &mut Compare, r: &mut Random, input: &[u8]) -> Vec<(u32, Lent<u64>)> {
+    let (mut at, mut ends, mut rows) = (8, 0, Vec::new());
     while ends < 2 {
         let tag = Lent::new(&r.numbers(6));
-        if let (_, Call::NextTag { tag, .. }) = c.call(Call::NextTag { input: Lent::new(input), at, tag }) {
+        if let (number, Call::NextTag { tag, .. }) = c.call(Call::NextTag { input: Lent::new(input), at, tag }) {
             at = tag[5] as usize;
             if tag[1] == 0 {
                 ends += 1;
             }
+            rows.push((number, tag));
         }
     }
+    rows
 }
 
 fn any_values(r: &mut Random) -> Values {

@@ -103,7 +103,7 @@ fn part_of(image: &Image, at: usize) -> String {
     }
 }
 
-fn answered(number: u32) -> String {
+pub fn answered(number: u32) -> String {
     match number {
         0 => "good".to_string(),
         n => format!("refused {n}"),
@@ -162,13 +162,7 @@ impl Tried {
         let mut f = Flash { boot: boot.partition(r, G), update: update.partition(r, G), swap: r.bytes(G.s) };
         let status = r.pick(&[NEW, SUCCESS]);
         set_trailers(G, &mut f, status, UPDATING, true);
-        // Without a power-up, to which the image need not be good.
-        for k in 0..r.below(3 * G.m() + 1) {
-            let legs = [(Area::Update, Area::Swap, 7), (Area::Boot, Area::Update, 3), (Area::Swap, Area::Boot, 0)];
-            let (from, to, flag) = legs[k % 3];
-            f.perform(G, Operation::Copy(from, to, k / 3));
-            f.perform(G, Operation::Flag(k / 3, flag));
-        }
+        do_legs(G, &mut f, r.below(3 * G.m() + 1));
         if let Some((at, byte)) = damage {
             let (old_boot, old_update) = old_places(f.flag(G, 0));
             let area = if is_boot { old_boot } else { old_update };

@@ -80,27 +80,67 @@ fn leave_out(r: &mut Random, tags: &mut Vec<Tag>) {
     }
 }
 
-/// A type that is not in the table, often one that is close to it. Its low byte is not FF, which would be padding.
-pub fn other_type(r: &mut Random) -> u16 {
+/// A type that is skipped, often one that is close to the table or to 8000. Its low byte is not FF, which would be padding.
+pub fn skipped_type(r: &mut Random) -> u16 {
     loop {
-        let any = r.next() as u16;
-        let kind = r.pick(&[0x0004, 0x0010, 0x0021, 0x0031, 0x0100, 0x0200, 0x0300, 0x1001, 0x2000, 0x3000, 0xFF00, 0xFFFE, any]);
+        let any = r.next() as u16 & 0x7FFF;
+        let kind = r.pick(&[0x0004, 0x0010, 0x0021, 0x0031, 0x0100, 0x0200, 0x0300, 0x1001, 0x2000, 0x3000, 0x7F00, 0x7FFE, any]);
         if kind != 0 && kind & 0xFF != 0xFF && !TYPES.contains(&kind) {
             return kind;
         }
     }
 }
 
-fn add_other_tags(r: &mut Random, tags: &mut Vec<Tag>) {
-    while r.one_in(2) && room(tags) >= 4 {
-        let most = room(tags) - 4;
-        let any = r.below(most + 1);
-        let length = r.pick(&[0, most.min(1), most.min(6), any, most]);
-        tags.push((other_type(r), r.bytes(length)));
+/// A type that must be understood, often the first, the last, or one that is a bit away from the table. Its low byte is not FF either.
+pub fn critical_type(r: &mut Random) -> u16 {
+    loop {
+        let (any, near) = (r.next() as u16, r.pick(&TYPES));
+        let kind = r.pick(&[0x8000, 0x8000, 0xFF00, 0xFFFE, near, near, any, any]) | 0x8000;
+        if kind & 0xFF != 0xFF {
+            return kind;
+        }
     }
 }
 
-fn shuffle(r: &mut Random, tags: &mut [Tag]) {
+/// A type that is not in the table.
+fn other_type(r: &mut Random) -> u16 {
+    if r.one_in(2) {
+        skipped_type(r)
+    } else {
+        critical_type(r)
+    }
+}
+
+/// Adds a tag of this type, if there is room for one.
+fn add_tag(r: &mut Random, tags: &mut Vec<Tag>, kind: u16) {
+    if room(tags) >= 4 {
+        let most = room(tags) - 4;
+        let any = r.below(most + 1);
+        let length = r.pick(&[0, most.min(1), most.min(6), any, most]);
+        tags.push((kind, r.bytes(length)));
+    }
+}
+
+fn add_skipped_tags(r: &mut Random, tags: &mut Vec<Tag>) {
+    while r.one_in(2) {
+        let kind = skipped_type(r);
+        add_tag(r, tags, kind);
+    }
+}
+
+/// Adds one tag that must be understood, at times more, of the same type or of others.
+fn add_critical_tags(r: &mut Random, tags: &mut Vec<Tag>) {
+    let mut kind = critical_type(r);
+    add_tag(r, tags, kind);
+    while r.one_in(4) {
+        if r.one_in(2) {
+            kind = critical_type(r);
+        }
+        add_tag(r, tags, kind);
+    }
+}
+
+pub fn shuffle(r: &mut Random, tags: &mut [Tag]) {
     for i in (1..tags.len()).rev() {
         let j = r.below(i + 1);
         tags.swap(i, j);
@@ -151,7 +191,8 @@ fn fill_with_tag(r: &mut Random, b: &mut Vec<u8>) {
     }
 }
 
-/// A header's bytes: the tags in any order, with padding and other tags. Made for the refusal `wrong` (2 to 8), or for none (0).
+/// A header's bytes: the tags in any order, with padding and skipped tags. Made for the refusal `wrong` (2 to 8, or 18), or for none
+/// (0). One that is made for another refusal than 18 at times has a tag for that too.
 pub fn header_bytes(r: &mut Random, v: &Header, wrong: u64) -> Vec<u8> {
     lay_out(r, v, wrong).0
 }
@@ -168,7 +209,10 @@ fn lay_out(r: &mut Random, v: &Header, wrong: u64) -> (Vec<u8>, Option<usize>) {
     if wrong == 5 && r.one_in(4) {
         repeat(r, &mut tags);
     }
-    add_other_tags(r, &mut tags);
+    if wrong == 18 || wrong != 0 && r.one_in(6) {
+        add_critical_tags(r, &mut tags);
+    }
+    add_skipped_tags(r, &mut tags);
     if !r.one_in(4) {
         shuffle(r, &mut tags);
     }
@@ -204,14 +248,16 @@ pub fn damage(r: &mut Random, b: &mut [u8], within: usize) {
     for _ in 0..r.within(1, 3) {
         let at = r.below(within);
         let any = r.next() as u8;
-        b[at] = r.pick(&[0, 1, 2, 3, 4, 8, 0x10, 0x20, 0x30, 0x40, 0xFF, any, any, b[at].wrapping_add(1), b[at].wrapping_sub(1)]);
+        let near = [b[at].wrapping_add(1), b[at].wrapping_sub(1), b[at] ^ 0x80];
+        b[at] = r.pick(&[0, 1, 2, 3, 4, 8, 0x10, 0x20, 0x30, 0x40, 0xFF, any, any, near[0], near[1], near[2]]);
     }
 }
 
-/// The refusal that a header or image is made for: mostly none, else one up to `most`.
-pub fn any_wrong(r: &mut Random, most: usize) -> u64 {
+/// The refusal that a header or image is made for: mostly none, else one up to `most`, or 18.
+pub fn any_wrong(r: &mut Random, most: u64) -> u64 {
     if r.one_in(3) {
-        r.within(2, most) as u64
+        let numbers: Vec<u64> = (2..=most).chain([18]).collect();
+        r.pick(&numbers)
     } else {
         0
     }
@@ -278,7 +324,7 @@ fn spoil_digest(r: &mut Random, image: &mut [u8], at: usize, end: usize) {
     }
 }
 
-/// Puts a header before the firmware that ends at `end`, made for the refusal `wrong` (2 to 9), or for none (0).
+/// Puts a header before the firmware that ends at `end`, made for the refusal `wrong` (2 to 9, or 18), or for none (0).
 fn put_header(r: &mut Random, image: &mut [u8], v: &Header, end: usize, wrong: u64) {
     let (h, digest) = lay_out(r, v, wrong);
     image[..HEADER].copy_from_slice(&h);
@@ -290,7 +336,7 @@ fn put_header(r: &mut Random, image: &mut [u8], v: &Header, end: usize, wrong: u
     }
 }
 
-/// A partition with an image, made for the refusal `wrong` (2 to 9), or for none (0). Its trailer holds any bytes.
+/// A partition with an image, made for the refusal `wrong` (2 to 9, or 18), or for none (0). Its trailer holds any bytes.
 pub fn partition(r: &mut Random, g: Geometry, version: u32, wrong: u64) -> Vec<u8> {
     let size = firmware_size(r, g.m() * g.s - HEADER, wrong);
     partition_of(r, g, version, size, wrong)
@@ -363,6 +409,16 @@ pub fn set_trailers(g: Geometry, f: &mut Flash, boot: u8, update: u8, erased: bo
     }
     f.perform(g, Operation::Status(Area::Boot, boot));
     f.perform(g, Operation::Status(Area::Update, update));
+}
+
+/// Does the first legs of an exchange, so many, without a power-up: the images need not be good.
+pub fn do_legs(g: Geometry, f: &mut Flash, legs: usize) {
+    for k in 0..legs {
+        let table = [(Area::Update, Area::Swap, 7), (Area::Boot, Area::Update, 3), (Area::Swap, Area::Boot, 0)];
+        let (from, to, flag) = table[k % 3];
+        f.perform(g, Operation::Copy(from, to, k / 3));
+        f.perform(g, Operation::Flag(k / 3, flag));
+    }
 }
 
 fn any_status(r: &mut Random, likely: &[u8]) -> u8 {

@@ -73,14 +73,24 @@ pub struct Image {
 }
 
 /// A tag of so many bytes that is skipped. If it can, it is often one that a byte makes a tag of the table.
-fn other_tag(r: &mut Random, length: usize) -> Tag {
+fn skipped_tag(r: &mut Random, length: usize) -> Tag {
     let near: Vec<u16> = TYPES.iter().zip(LENGTHS).filter(|(_, l)| 4 + l == length).map(|(kind, _)| kind ^ 0x0100).collect();
-    let kind = if near.is_empty() || r.one_in(3) { other_type(r) } else { r.pick(&near) };
+    let kind = if near.is_empty() || r.one_in(3) { skipped_type(r) } else { r.pick(&near) };
     (kind, r.bytes(length - 4))
 }
 
-/// Puts padding and tags that are skipped among these, so many bytes. At times two bytes of padding stand before a tag that would still
-/// be passed over if the first of them were not FF: the two and its type would be a tag as long as the rest of it.
+/// Padding and a tag that is skipped. If the first byte of the padding is not FF, the two are one tag, which ends where they end. With two
+/// bytes of padding it is of a type from FF00 up, as long as the first tag's type says; with one byte it is skipped.
+fn padding_and_tag(r: &mut Random, room: usize) -> [Item; 2] {
+    if r.one_in(2) {
+        let length = r.within(2, (room - 6).min(29));
+        [Item::Padding(2), Item::Tag((length as u16 + 2, r.bytes(length)))]
+    } else {
+        [Item::Padding(1), Item::Tag((0x0100 + r.within(1, 0x7F) as u16, vec![]))]
+    }
+}
+
+/// Puts padding and tags that are skipped among these, so many bytes.
 fn fill(r: &mut Random, items: &mut Vec<Item>, mut room: usize, filling: Filling) {
     while room > 0 {
         let at = r.below(items.len() + 1);
@@ -89,15 +99,14 @@ fn fill(r: &mut Random, items: &mut Vec<Item>, mut room: usize, filling: Filling
             Filling::OtherTags => room >= 4,
             Filling::Both => room >= 4 && r.one_in(2),
         };
-        let any = r.within(1, room);
         if tag && matches!(filling, Filling::Both) && room >= 8 && r.one_in(2) {
-            let length = any.clamp(2, (room - 6).min(29));
-            items.insert(at, Item::Tag((length as u16 + 2, r.bytes(length))));
-            items.insert(at, Item::Padding(2));
-            room -= 6 + length;
+            let pair = padding_and_tag(r, room);
+            room -= pair.iter().map(Item::length).sum::<usize>();
+            items.splice(at..at, pair);
         } else {
+            let any = r.within(1, room);
             let length = if room < 8 { room } else { r.pick(&[8, 12.min(room), 36.min(room), any, room]) };
-            let item = if tag { Item::Tag(other_tag(r, length.max(4))) } else { Item::Padding(length) };
+            let item = if tag { Item::Tag(skipped_tag(r, length.max(4))) } else { Item::Padding(length) };
             room -= item.length();
             items.insert(at, item);
         }

@@ -1,5 +1,5 @@
-//! Runs the library against the reference: random and damaged inputs, then images with each byte damaged, then every cut and every pair
-//! of cuts for small partitions, then flags that are spoiled at every cut and mended.
+//! Runs the library against the reference: random and damaged inputs, then images with each byte damaged, then tags of types around 8000
+//! with every other fault, then every cut and every pair of cuts for small partitions, then flags that are spoiled at every cut and mended.
 //!
 //! compare [CALLS] [SEED]: the number of random calls (default 1,000,000) and the seed. Every number and byte that a call leaves is
 //! compared. A difference is printed whole and fails (status 1); so does an answer that is never met, unless the calls are fewer than
@@ -7,6 +7,7 @@
 mod call;
 mod calls;
 mod covers;
+mod critical;
 mod cuts;
 mod inputs;
 mod layouts;
@@ -51,7 +52,7 @@ fn argument(at: usize, default: u64) -> u64 {
 
 fn main() {
     let (calls, seed) = (argument(1, ENOUGH), argument(2, 20_261_115));
-    println!("seed {seed}, {calls} random calls, then damaged images, then cuts, then mending");
+    println!("seed {seed}, {calls} random calls, then damaged images, then types around 8000, then cuts, then mending");
     catch_signals();
     let mut r = Random(seed);
     let mut c = Compare { seed, calls: 0, tally: Tally::default() };
@@ -65,6 +66,11 @@ fn main() {
     let covered = std::mem::take(&mut c.tally);
     println!("answers to images with a damaged byte, or with a digest over something else:");
     covered.print();
+    let critical = critical::try_critical(&mut c, &mut r);
+    let understood = c.calls;
+    let types = std::mem::take(&mut c.tally);
+    println!("answers to tags of types around 8000:");
+    types.print();
     let mut tried = cuts::try_every_cut(&mut c, &mut r);
     cuts::try_lists(&mut c, &mut r, &mut tried);
     let cut = c.calls;
@@ -74,17 +80,19 @@ fn main() {
     println!("answers of mending, and of the power-ups before and behind it:");
     c.tally.print();
     println!(
-        "seed {seed}: {random} random calls, {} on damaged images, {} power-ups with cuts, {} calls around mending",
+        "seed {seed}: {random} random calls, {} on damaged images, {} on types around 8000, {} power-ups with cuts, {} around mending",
         damaged - random,
-        cut - damaged,
+        understood - damaged,
+        cut - understood,
         c.calls - cut
     );
     covers.print();
+    critical.print();
     println!("{} single cuts, {} pairs of cuts, {} lists of power-ups", tried.single_cuts, tried.pairs, tried.lists);
     println!("{} exchanges to mend, {} mended", mends.exchanges, mends.mended);
-    let never = [covered.missing_of_covers(), c.tally.missing_of_mends()].concat();
+    let never = [covered.missing_of_covers(), types.missing_of_critical(), c.tally.missing_of_mends()].concat();
     if !never.is_empty() {
-        println!("no difference, but NEVER MET with damaged images or in mending:\n  {}", never.join("\n  "));
+        println!("no difference, but NEVER MET with damaged images, types around 8000 or in mending:\n  {}", never.join("\n  "));
         std::process::exit(1);
     }
     let missing = answers.missing();

@@ -274,8 +274,8 @@ fn spoiled(c: &mut Compare, r: &mut Random) -> (Exchange, Flash) {
     (exchange, f)
 }
 
-/// Every status byte in BOOT and in UPDATE, and every pair that they may hold; lengths and geometries outside the rules; images that are damaged, and an update that is
-/// not newer.
+/// Every status byte in BOOT and in UPDATE, and every pair that they may hold; lengths and geometries outside the rules; images that are
+/// damaged, and an update that is not newer.
 fn refusals(c: &mut Compare, r: &mut Random) {
     for byte in 0..=255 {
         for area in [Area::Boot, Area::Update] {

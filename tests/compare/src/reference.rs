@@ -95,7 +95,10 @@ fn required_length(kind: u16) -> Option<usize> {
     }
 }
 
-/// What stands at or after a place: a tag's place, type and length; or None for the end.
+/// From this type up a tag must be understood: the reader refuses one that is not in the table.
+const FIRST_CRITICAL: u16 = 0x8000;
+
+/// What stands at or after a place: a tag's place, type and length; or None for the end. All types are given alike.
 pub fn next_tag(h: &[u8], mut p: usize) -> Result<Option<(usize, u16, usize)>, Refusal> {
     if h.len() < HEADER {
         return refuse(16, 0);
@@ -138,14 +141,12 @@ pub fn read_header(s: &[u8]) -> Result<Header, Refusal> {
     let mut found: Vec<(u16, &[u8])> = Vec::new();
     let mut p = 8;
     while let Some((at, kind, length)) = next_tag(h, p)? {
-        if let Some(right) = required_length(kind) {
-            if length != right {
-                return refuse(5, at as u64);
-            }
-            if found.iter().any(|(k, _)| *k == kind) {
-                return refuse(6, at as u64);
-            }
-            found.push((kind, &h[at + 4..at + 4 + length]));
+        match required_length(kind) {
+            None if kind >= FIRST_CRITICAL => return refuse(18, at as u64),
+            None => {}
+            Some(right) if length != right => return refuse(5, at as u64),
+            Some(_) if found.iter().any(|(k, _)| *k == kind) => return refuse(6, at as u64),
+            Some(_) => found.push((kind, &h[at + 4..at + 4 + length])),
         }
         p = at + 4 + length;
     }

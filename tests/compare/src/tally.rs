@@ -1,8 +1,9 @@
 //! How often each call gave each answer, and what has to be met in a run.
 use crate::call::{Call, LentFlash};
+use crate::critical::{kinds, Class};
 use crate::inputs::{other_covers, TYPES};
 use crate::reference::{next_tag, Geometry, HEADER, NAMES, NEW, SUCCESS, TESTING, UPDATING};
-use std::collections::BTreeMap;
+use std::collections::{BTreeMap, BTreeSet};
 
 #[derive(Default)]
 pub struct Tally {
@@ -10,6 +11,8 @@ pub struct Tally {
     answers: BTreeMap<String, u64>,
     /// By call and buffer, then by what is wrong with its length.
     lengths: BTreeMap<String, BTreeMap<&'static str, u64>>,
+    /// By the situation of a tag that the reader does not know with what was answered, and by its type: the places at which it stood.
+    types: BTreeMap<(String, u16), BTreeSet<usize>>,
 }
 
 impl Tally {
@@ -31,6 +34,12 @@ impl Tally {
         *self.answers.entry(what.to_string()).or_insert(0) += 1;
     }
 
+    /// Counts what was answered to a tag of this type at this place; 0 if the place has no say.
+    pub fn note_type(&mut self, what: &str, kind: u16, place: usize) {
+        self.note(&format!("type {}, {what}", Class::of(kind).name()));
+        self.types.entry((what.to_string(), kind)).or_default().insert(place);
+    }
+
     pub fn print(&self) {
         for (what, times) in &self.answers {
             println!("{times:9} {what}");
@@ -46,11 +55,28 @@ impl Tally {
     pub fn missing_of_covers(&self) -> Vec<String> {
         let mut all: Vec<String> = covers_to_meet().into_iter().filter(|what| !self.answers.contains_key(what)).collect();
         for (side, numbers) in [("before", 2..=9), ("behind", 4..=8)] {
-            for what in numbers.map(|n| format!("refused {n}")) {
+            for what in numbers.chain([18]).map(|n| format!("refused {n}")) {
                 let met = |key: &String| key.starts_with(&format!("damaged {side} the digest, in ")) && key.ends_with(&what);
                 if !self.answers.keys().any(met) {
                     all.push(format!("damaged {side} the digest: {what}"));
                 }
+            }
+        }
+        all
+    }
+
+    /// What was never met of what each type that the reader does not know has to meet.
+    pub fn missing_of_critical(&self) -> Vec<String> {
+        let mut all = Vec::new();
+        for (kind, situation, due) in critical_to_meet() {
+            let what = format!("{situation}: {due}");
+            match self.types.get(&(what.clone(), kind)) {
+                None => all.push(format!("type {kind:04X}, {what}")),
+                Some(places) if situation == EVERY_PLACE => {
+                    let missing = places_of(kind).filter(|place| !places.contains(place));
+                    all.extend(missing.map(|place| format!("type {kind:04X}, {what}, at {place}")));
+                }
+                Some(_) => {}
             }
         }
         all
@@ -115,6 +141,17 @@ fn of_header(input: &[u8]) -> Vec<String> {
         all.push("done, with a hint".to_string());
     }
     all
+}
+
+/// A tag by its type, or the end.
+fn of_tag(row: &[u64]) -> String {
+    match row[3] as u16 {
+        _ if row[1] == 0 => "end",
+        kind if TYPES.contains(&kind) => "tag of the table",
+        0..=0x7FFF => "tag that is skipped",
+        _ => "tag that must be understood",
+    }
+    .to_string()
 }
 
 fn of_power_up(number: u32, row: &[u64]) -> Vec<String> {
@@ -209,7 +246,7 @@ fn answers(asked: &Call, number: u32, after: &Call) -> Vec<String> {
     let mut all = match after {
         Call::PowerUp { answer, .. } if answer.len() == 6 => of_power_up(number, answer),
         Call::Mend { flash, numbers, .. } if numbers.len() == 3 => of_mend(flash, number, numbers),
-        Call::NextTag { tag, .. } if number == 0 => vec![if tag[1] == 1 { "tag" } else { "end" }.to_string()],
+        Call::NextTag { tag, .. } if number == 0 => vec![of_tag(tag)],
         _ => vec![answered(number)],
     };
     if let (Call::ReadHeader { input, .. }, 0) = (asked, number) {
@@ -276,15 +313,24 @@ fn covers_to_meet() -> Vec<String> {
     let damaged: [(&str, &[&str]); 14] = [
         ("before the digest, in the magic", &["refused 2", power_ups, mending]),
         ("before the digest, in the size", &["refused 3", "refused 9", power_ups, mending]),
-        ("before the digest, in padding", &["refused 4", "refused 8", "refused 9", power_ups, mending]),
-        ("before the digest, in a skipped tag", &["refused 4", "refused 6", "refused 8", "refused 9", power_ups, mending]),
-        ("before the digest, in a tag of the table", &["refused 4", "refused 5", "refused 8", "refused 9", power_ups, mending]),
-        ("in the digest's type or length", &["refused 4", "refused 5", "refused 8", power_ups, mending]),
+        ("before the digest, in padding", &["refused 4", "refused 8", "refused 9", "refused 18", power_ups, mending]),
+        (
+            "before the digest, in a skipped tag",
+            &["refused 4", "refused 6", "refused 8", "refused 9", "refused 18", power_ups, mending],
+        ),
+        (
+            "before the digest, in a tag of the table",
+            &["refused 4", "refused 5", "refused 8", "refused 9", "refused 18", power_ups, mending],
+        ),
+        ("in the digest's type or length", &["refused 4", "refused 5", "refused 8", "refused 18", power_ups, mending]),
         ("in the digest", &["refused 9", power_ups, mending]),
-        ("behind the digest, in padding", &["good", "mended", "refused 4", power_ups, mending]),
-        ("behind the digest, in a skipped tag", &["good", "mended", "refused 4", "refused 6", power_ups, mending]),
-        ("behind the digest, in a tag of the table", &["good", "mended", "refused 5", "refused 8", power_ups, mending]),
-        ("behind the digest, in the end", &["good", "mended", "refused 4", power_ups, mending]),
+        ("behind the digest, in padding", &["good", "mended", "refused 4", "refused 18", power_ups, mending]),
+        ("behind the digest, in a skipped tag", &["good", "mended", "refused 4", "refused 6", "refused 18", power_ups, mending]),
+        (
+            "behind the digest, in a tag of the table",
+            &["good", "mended", "refused 5", "refused 8", "refused 18", power_ups, mending],
+        ),
+        ("behind the digest, in the end", &["good", "mended", "refused 4", "refused 18", power_ups, mending]),
         ("behind the digest, in what follows the end", &["good", "mended"]),
         ("in the firmware", &["refused 9", power_ups]),
         ("behind the firmware", &["good"]),
@@ -298,23 +344,109 @@ fn covers_to_meet() -> Vec<String> {
     all
 }
 
+/// To be met at every place where the tag can stand beside all the others.
+const EVERY_PLACE: &str = "at a place";
+
+/// Where a tag with the shortest value can stand with the end behind it: that value is a byte long if the type's low byte is FF.
+fn places_of(kind: u16) -> std::ops::RangeInclusive<usize> {
+    8..=HEADER - 6 - usize::from(Class::of(kind) == Class::Padding)
+}
+
+/// Of the types that the reader does not know: where the tag stands, what is answered if it is skipped, and if it must be understood.
+const CRITICAL: [(&str, &str, &str); 48] = [
+    ("alone, before the digest", "good", "refused 18"),
+    ("alone, behind the digest", "good", "refused 18"),
+    ("behind padding", "good", "refused 18"),
+    ("repeated", "good", "refused 18"),
+    ("between skipped tags", "good", "refused 18"),
+    ("before another type from 8000 up", "refused 18", "refused 18"),
+    ("behind another type from 8000 up", "refused 18", "refused 18"),
+    ("behind the end", "good", "good"),
+    ("in the value of a skipped tag", "good", "good"),
+    ("in the signature", "good", "good"),
+    (EVERY_PLACE, "good", "refused 18"),
+    ("up to a last byte", "refused 4", "refused 18"),
+    ("up to a byte of padding", "refused 7", "refused 18"),
+    ("up to the header's end", "refused 7", "refused 18"),
+    ("three bytes left", "refused 4", "refused 4"),
+    ("two bytes left", "refused 4", "refused 4"),
+    ("one byte left", "refused 4", "refused 4"),
+    ("with a value that is too long", "refused 4", "refused 4"),
+    ("before a tag that does not fit", "refused 4", "refused 18"),
+    ("behind a tag that does not fit", "refused 4", "refused 4"),
+    ("before a wrong length", "refused 5", "refused 18"),
+    ("behind a wrong length", "refused 5", "refused 5"),
+    ("before a tag and its repetition", "refused 6", "refused 18"),
+    ("between a tag and its repetition", "refused 6", "refused 18"),
+    ("behind a tag and its repetition", "refused 6", "refused 6"),
+    ("without an end", "refused 7", "refused 18"),
+    ("with a tag missing", "refused 8", "refused 18"),
+    ("behind the end, with a tag missing", "refused 8", "refused 8"),
+    ("with a wrong digest", "refused 9", "refused 18"),
+    ("behind the end, with a wrong digest", "refused 9", "refused 9"),
+    ("with a size too large", "refused 3", "refused 18"),
+    ("behind the end, with a size too large", "refused 3", "refused 3"),
+    ("with size 0", "refused 3", "refused 3"),
+    ("with a wrong magic", "refused 2", "refused 2"),
+    ("in too few bytes", "refused 16", "refused 16"),
+    ("in a partition of another length", "refused 1", "refused 1"),
+    ("as BOOT, at rest", "run", "refused 12 for 18"),
+    ("as UPDATE, armed", "run on test", "turned down for 18, run"),
+    ("as UPDATE, armed, without a budget", "cut", "turned down for 18, cut"),
+    ("as UPDATE, to fall back to", "run, fallen back", "refused 13 for 18"),
+    ("as BOOT, with an update armed", "run on test", "refused 12 for 18"),
+    ("as BOOT and as UPDATE, armed", "turned down for 15, run", "turned down for 18, refused 12 for 18"),
+    ("as UPDATE, in an update that goes on", "run on test", "refused 12 for 18 after operations"),
+    ("as BOOT, in an update that goes on", "run on test", "run on test"),
+    ("as UPDATE, in a fallback that goes on", "run, fallen back", "refused 12 for 18 after operations"),
+    ("to mend, the header in BOOT", "mended", "no mark fits"),
+    ("to mend, the header in UPDATE", "mended", "no mark fits"),
+    ("to mend, the header in SWAP", "mended", "no mark fits"),
+];
+
+/// Each type that the reader does not know, where its tag stands, and what has to be answered.
+fn critical_to_meet() -> Vec<(u16, &'static str, &'static str)> {
+    let mut all = Vec::new();
+    for kind in kinds() {
+        for (situation, skipped, understood) in CRITICAL {
+            let due = match Class::of(kind) {
+                Class::Critical => understood,
+                // Padding is all that is left of it.
+                Class::Padding if situation == "one byte left" => "refused 7",
+                _ => skipped,
+            };
+            all.push((kind, situation, due));
+        }
+        if Class::of(kind) == Class::Padding {
+            all.push((kind, "in the walk", "not given"));
+            all.push((kind, "with a length below 80", "good"));
+            all.push((kind, "with a length from 80 up", "refused 18"));
+        } else {
+            all.push((kind, "in the walk", "given"));
+        }
+    }
+    all
+}
+
 fn answers_to_meet() -> Vec<String> {
     let numbers: [(&str, &[u32]); 12] = [
         ("sha256", &[0, 1]),
-        ("read_header", &[0, 1, 2, 3, 4, 5, 6, 7, 8, 16]),
+        ("read_header", &[0, 1, 2, 3, 4, 5, 6, 7, 8, 16, 18]),
         ("write_header", &[0, 1, 3, 16]),
         ("make_header", &[0, 1, 3, 16]),
         ("next_tag", &[1, 4, 7, 16]),
         ("read_sheet", &[0, 1, 101, 102, 103, 104]),
-        ("check_image", &[0, 1, 2, 3, 4, 5, 6, 7, 8, 9]),
-        ("check_firmware", &[0, 1, 2, 3, 4, 5, 6, 7, 8, 9, 16]),
+        ("check_image", &[0, 1, 2, 3, 4, 5, 6, 7, 8, 9, 18]),
+        ("check_firmware", &[0, 1, 2, 3, 4, 5, 6, 7, 8, 9, 16, 18]),
         ("power_up", &[1, 10, 11]),
         ("arm", &[0, 1, 10, 14]),
         ("confirm", &[0, 1, 10, 11, 14]),
         ("mend", &[0, 1, 10, 14, 17]),
     ];
     let others = [
-        "next_tag: tag",
+        "next_tag: tag of the table",
+        "next_tag: tag that is skipped",
+        "next_tag: tag that must be understood",
         "next_tag: end",
         "read_header: done, padding of more than 3 before a tag",
         "read_header: done, end at 254",
@@ -349,7 +481,7 @@ fn answers_to_meet() -> Vec<String> {
         all.push(format!("read_sheet: refused 103 for {name}"));
         all.push(format!("read_sheet: refused 104 for {name}"));
     }
-    for inner in 2..=9 {
+    for inner in (2..=9).chain([18]) {
         all.push(format!("power_up: refused 12 for {inner}"));
         all.push(format!("power_up: refused 13 for {inner}"));
         all.push(format!("power_up: turned down for {inner:2}"));

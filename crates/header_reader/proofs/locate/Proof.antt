@@ -35,9 +35,9 @@ returns-3 c =
 
 returns-4 : tie.Need-returns-4
 returns-4 c =
-    let z = c .before .before .before .before in
+    let z = c .before .before in
     let r = z .before .before in
-    rw (by-tags (r .before .before .before .before .args .s .now) (omega arith) (r .read-u32 .ensures) (z .before .if2 .left) (z .read-u322 .ensures) (c .before .before .before .if3 .left))
+    rw (by-tags (r .before .before .before .before .args .s .now) (omega arith) (r .read-u32 .ensures) (z .before .if2 .left) (z .read-u322 .ensures) (c .before .if3 .left))
     (c .find-places .ensures)
 
 pub locate-spec : {M : Type 1} → statement M
@@ -53,7 +53,5 @@ locate-spec =
     read-u32-requires-2
     (λ c κs. search needs)
     returns-3
-    (λ c. search needs)
-    (λ c. search needs)
     (λ c κs. search needs)
     returns-4)

@@ -29,10 +29,15 @@ returns-8 c = rw (c .before .before .o4 .given .1) (c .refuse8 .ensures)
 returns-9 : tie.Need-returns-9
 returns-9 c = rw (c .before .before .o5 .given .1) (c .refuse9 .ensures)
 
+returns-10 : tie.Need-returns-10
+returns-10 c = rw (c .before .before .o6 .given .1) (c .refuse10 .ensures)
+
 pub of-header-spec : {M : Type 1} → statement M
 of-header-spec =
     tie.close
     (tie.spec
+    (λ c. search needs)
+    (λ c κs. search needs)
     (λ c. search needs)
     (λ c κs. search needs)
     (λ c. search needs)
@@ -59,4 +64,5 @@ of-header-spec =
     returns-6
     returns-7
     returns-8
-    returns-9)
+    returns-9
+    returns-10)

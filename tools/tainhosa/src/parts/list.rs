@@ -42,7 +42,8 @@ fn listing(json: bool, name: &str, bytes: &[u8]) -> Said {
 fn tag_line(tag: &Tag) -> String {
     let Tag { place, kind, length } = tag;
     let name = tag_name((*kind).into()).map_or(String::new(), |name| format!(" {name}"));
-    format!("at {place} type {kind:04x} length {length}{name}\n")
+    let critical = if tag.is_critical() { " critical" } else { "" };
+    format!("at {place} type {kind:04x} length {length}{name}{critical}\n")
 }
 
 fn tag_json(tag: &Tag) -> Json {
@@ -52,6 +53,7 @@ fn tag_json(tag: &Tag) -> Json {
         ("type", Json::Number(tag.kind.into())),
         ("length", Json::Number(tag.length as u64)),
         ("name", name),
+        ("critical", Json::Bool(tag.is_critical())),
     ])
 }
 
