@@ -15,7 +15,7 @@ use Rattle.header_tags.specs.Padding.{WalkNumber, doesNotFit, noEnd}
 use Rattle.header_tags.proofs.Padding.{walk-gives-its-numbers, number-same, place-same, gives-refused}
 use Rattle.header_places.specs.Table.{TagTable}
 use Rattle.header_places.specs.Judging.{rowOf, judge, placesIn}
-use Rattle.header_places.specs.RuledOut.{InRow, Known, Unknown, TagJudged, TagsAreJudged, EndJudged, EndIsJudged, TagNumber, doesNotFit as notFitting, wrongLength as ofLength, repeated as again, notUnderstood, noEnd as endless, missing, TagsGiveTheirNumbers}
+use Rattle.header_places.specs.RuledOut.{InRow, Known, Unknown, TagJudged, TagsAreJudged, EndJudged, EndIsJudged, BreakIsJudged, TagNumber, doesNotFit as notFitting, wrongLength as ofLength, repeated as again, notUnderstood, noEnd as endless, missing, TagsGiveTheirNumbers}
 
 -- ---- the row of a type
 
@@ -135,6 +135,10 @@ module _ (T : TagTable) (seen : List ℕ) (rows : T .required ≤ length seen) w
 
 pub end-is-judged : EndIsJudged
 end-is-judged T seen rows = record { missing = end-missing T seen rows; whole = end-whole T seen rows }
+
+pub break-is-judged : BreakIsJudged
+unfolding judge
+break-is-judged T seen n p = refl
 
 -- ---- the numbers
 

@@ -18,7 +18,7 @@ use Rattle.header_tags.proofs.Standing.{found-tags-stand}
 use Rattle.header_places.specs.Table.{TagTable, boundedBy}
 use Rattle.header_places.specs.Judging.{rowOf, judge, placesIn}
 use Rattle.header_places.specs.RuledOut.{Known, Unknown}
-use Rattle.header_places.specs.Understood.{Passed, arrived, skipped, taken, RestDecides, NotUnderstood, EighteenExactly, Understood, EighteenTells, told, ofLength, again, RefusedUpTo, EachIsRefused, TakenIsUnderstood, ReadAsBefore, TableSays}
+use Rattle.header_places.specs.Understood.{Passed, arrived, skipped, taken, RestDecides, NotUnderstood, EighteenExactly, Understood, EighteenTells, told, ofLength, again, RefusedUpTo, EachIsRefused, TakenIsUnderstood, ReadAsBefore, TableSays, TablesAsHanded}
 use Rattle.header_places.proofs.RuledOut.{known, not-known, unknown, in-row, row-of, other-tag, critical-tag, length-tag, repeated-tag, taken-tag, Breaks, tags-break}
 use Rattle.header_places.proofs.Before.{no-more, first-or-behind}
 
@@ -32,7 +32,7 @@ passed-on {T} (taken q t n r i e z p) = taken-tag T _ q t n _ (row-of i) (i .row
 
 pub rest-decides : RestDecides
 unfolding placesIn
-rest-decides T h seen rest p = passed-on p
+rest-decides T h after rest p = passed-on p
 
 -- ---- 18
 
@@ -112,7 +112,7 @@ eighteen-exactly T h q = (to, from)
         record {
           type = s .type;
           size = s .size;
-          seen = s .after;
+          after = s .after;
           rest = s .rest;
           reached = s .reached;
           unknown = s .unknown-type;
@@ -121,8 +121,8 @@ eighteen-exactly T h q = (to, from)
 
     from : NotUnderstood T h q → placesIn T h ≡ refused 18 q
     from w =
-        rest-decides T h (w .seen) _ (w .reached)
-        ∙ critical-tag T (w .seen) q (w .type) (w .size) (w .rest) refl (not-known T (w .type) (w .unknown)) (w .high)
+        rest-decides T h (w .after) _ (w .reached)
+        ∙ critical-tag T (w .after) q (w .type) (w .size) (w .rest) refl (not-known T (w .type) (w .unknown)) (w .high)
 
 -- ---- where the tags stand
 
@@ -288,4 +288,7 @@ read-as-before T h bound k = same-under T bound (tagsAt h 8) k (replicate (lengt
 
 pub table-says : TableSays
 unfolding placesIn judge rowOf tagsFrom itemFrom itemAt
-table-says = record { without = refl; within = refl; otherLength = refl; lower = refl }
+table-says = record { without = refl; within = refl; otherLength = refl; off = refl; lower = refl }
+
+pub tables-as-handed : TablesAsHanded
+tables-as-handed t = record { types = refl; lengths = refl; required = refl; critical = refl }

@@ -6,7 +6,7 @@ use mathlib.Core.List.{List}
 use mathlib.Core.Logic.{_≢_}
 use lib.ListN.{length, getD, set}
 use Rattle.numbers.specs.Answer.{gives, refused}
-use Rattle.header_tags.specs.Walk.{Tags, ended, more}
+use Rattle.header_tags.specs.Walk.{Tags, ended, broken, more}
 use Rattle.header_places.specs.Table.{TagTable}
 use Rattle.header_places.specs.Judging.{judge, placesIn}
 
@@ -51,6 +51,10 @@ pub record EndJudged (T : TagTable) (seen : List ℕ) : Type 0 where
 
 abbrev pub EndIsJudged : Type 0
 EndIsJudged = (T : TagTable) (seen : List ℕ) → T .required ≤ length seen → EndJudged T seen
+
+-- Where the walk breaks, its number is told, whatever was seen.
+abbrev pub BreakIsJudged : Type 0
+BreakIsJudged = (T : TagTable) (seen : List ℕ) (n p : ℕ) → judge T seen (broken n p) ≡ refused n p
 
 -- The numbers that the tags of a header of l bytes give: 4, 5, 6 and 18 at some place, 7 at l, and 8 with a required type for the place.
 pub data TagNumber (T : TagTable) (l : ℕ) : ℕ → ℕ → Type 0 where

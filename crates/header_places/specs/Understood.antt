@@ -9,7 +9,8 @@ use Rattle.numbers.specs.Answer.{Answer, gives, refused}
 use Rattle.header_tags.specs.Walk.{firstTag, Tags, more, tagsAt}
 use Rattle.header_tags.specs.Bytes.{littleEndian, tagBytes}
 use Rattle.header_tags.specs.Standing.{TagStands, Walked}
-use Rattle.header_places.specs.Table.{TagTable, table, boundedBy}
+use Rattle.header_places.specs.declared.TagTable.{TagTable as CodeTable}
+use Rattle.header_places.specs.Table.{TagTable, table, tableOf, boundedBy}
 use Rattle.header_places.specs.Judging.{judge, placesIn}
 use Rattle.header_places.specs.RuledOut.{InRow, Known, Unknown}
 
@@ -22,22 +23,22 @@ pub data Passed (T : TagTable) (after : List ℕ) (rest : Tags) : List ℕ → T
   taken : {seen : List ℕ} {tags : Tags} (q t n r : ℕ) → InRow T t r → n ≡ getD (T .lengths) r 0 → getD seen r 0 ≡ 0
       → Passed T after rest (set seen r q) tags → Passed T after rest seen (more q t n tags)
 
--- The header's tags are passed up to `rest`, with `seen` then.
+-- The header's tags, with nothing seen before them, are passed up to `rest`.
 abbrev pub Reaches : TagTable → List ℕ → List ℕ → Tags → Type 0
-Reaches T h seen rest = Passed T seen rest (replicate (length (T .types)) 0) (tagsAt h firstTag)
+Reaches T h after rest = Passed T after rest (replicate (length (T .types)) 0) (tagsAt h firstTag)
 
--- What is passed has no other say: the header's answer is the judgement of the rest. So the statements on one tag and on the end
--- (`TagJudged`, `EndJudged`) speak of whole headers.
+-- What is passed has no other say: the header's answer is the judgement of the rest. So the statements on one tag, on the end and on a walk
+-- that breaks (`TagJudged`, `EndJudged`, `BreakIsJudged`) speak of whole headers.
 abbrev pub RestDecides : Type 0
-RestDecides = (T : TagTable) (h seen : List ℕ) (rest : Tags) → Reaches T h seen rest → placesIn T h ≡ judge T seen rest
+RestDecides = (T : TagTable) (h after : List ℕ) (rest : Tags) → Reaches T h after rest → placesIn T h ≡ judge T after rest
 
 -- The first tag of the header that is not passed stands at q, and its type is critical and not known.
 pub record NotUnderstood (T : TagTable) (h : List ℕ) (q : ℕ) : Type 0 where
   pub type : ℕ
   pub size : ℕ
-  pub seen : List ℕ
+  pub after : List ℕ
   pub rest : Tags
-  pub reached : Reaches T h seen (more q type size rest)
+  pub reached : Reaches T h after (more q type size rest)
   pub unknown : Unknown T type
   pub high : T .critical ≤ type
 
@@ -45,7 +46,7 @@ pub record NotUnderstood (T : TagTable) (h : List ℕ) (q : ℕ) : Type 0 where
 abbrev pub EighteenExactly : Type 0
 EighteenExactly = (T : TagTable) (h : List ℕ) (q : ℕ) → (placesIn T h ≡ refused 18 q) ↔ NotUnderstood T h q
 
--- A type for which no header is refused: it is known, or low.
+-- A type that is no ground for 18: it is known, or low.
 abbrev pub Understood : TagTable → ℕ → Type 0
 Understood T t = Known T t ⊎ (t < T .critical)
 
@@ -63,7 +64,7 @@ abbrev pub EighteenTells : Type 0
 EighteenTells = (T : TagTable) (h : List ℕ) (q : ℕ) → placesIn T h ≡ refused 18 q → FirstOfItsKind T h q
 
 -- The refusals that a header with such a tag at q can have: 18 at q or before it, 5 or 6 before it. No fault that the walk would find
--- behind it comes first, and none that is told of the whole header: 4, 7 and 8 do not come.
+-- behind it comes first: neither another tag's 4, 5 or 6, nor 7, nor 8.
 pub data UpTo (q : ℕ) : ℕ → ℕ → Type 0 where
   told : (p : ℕ) → p ≤ q → UpTo q 18 p
   ofLength : (p : ℕ) → p < q → UpTo q 5 p
@@ -93,8 +94,9 @@ ReadAsBefore =
     → ((q t : ℕ) → Walked (tagsAt h firstTag) q t → Understood T t × Understood (boundedBy bound T) t)
     → placesIn (boundedBy bound T) h ≡ placesIn T h
 
--- "Known" is what the table says. A header of one tag of type t, of two bytes, and the end: of type 8001 it is refused by a table without
--- the type, taken by one that has it, and refused for its length by one that asks for another; type 7FFE is skipped.
+-- "Known" is what the table says. A header of one tag of type t, with a value of two bytes, and the end: of type 8001 it is refused by a
+-- table without the type, taken by one that has it, and refused for its length by one that asks for another; with the rule off it is
+-- skipped, as type 7FFE is.
 abbrev pub oneTag : ℕ → List ℕ
 oneTag t = replicate 8 0 ++ (tagBytes t (0x0A ∷ 0x0B ∷ []) ++ littleEndian 2 0x0000)
 
@@ -102,4 +104,15 @@ pub record TableSays : Type 0 where
   pub without : placesIn (table [] [] 0) (oneTag 0x8001) ≡ refused 18 8
   pub within : placesIn (table (0x8001 ∷ []) (2 ∷ []) 1) (oneTag 0x8001) ≡ gives (8 ∷ [])
   pub otherLength : placesIn (table (0x8001 ∷ []) (3 ∷ []) 1) (oneTag 0x8001) ≡ refused 5 8
+  pub off : placesIn (boundedBy 0x10000 (table [] [] 0)) (oneTag 0x8001) ≡ gives []
   pub lower : placesIn (table [] [] 0) (oneTag 0x7FFE) ≡ gives []
+
+-- A table of the code is read row by row as it is, whatever its types are, and its bound is 8000.
+pub record AsHanded (t : CodeTable) : Type 0 where
+  pub types : tableOf t .types ≡ t .types
+  pub lengths : tableOf t .lengths ≡ t .lengths
+  pub required : tableOf t .required ≡ t .required
+  pub critical : tableOf t .critical ≡ 0x8000
+
+abbrev pub TablesAsHanded : Type 0
+TablesAsHanded = (t : CodeTable) → AsHanded t

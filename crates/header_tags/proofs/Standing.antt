@@ -8,13 +8,38 @@ use native.Mathlib.Omega.{arith}
 use lib.ListN.{length, getD, take, drop, length-take, length-drop}
 use lib.Seq.{getD-take, getD-drop, ext-getD}
 use borrow.Author.Tests.{eqb-true, eqb-false}
-use Rattle.numbers.specs.Answer.{Answer, gives}
-use Rattle.header_tags.specs.Walk.{Item, tag, itemAt, itemFrom, nextItem}
-use Rattle.header_tags.specs.Standing.{TagStands, FoundTagsStand, FoundBySameBytes}
-use Rattle.header_tags.proofs.Laws.{found, next-item, next-padding, refused-gives, item-stands, from-stands}
+use native.Mathlib.Decide.{decLt}
+use Rattle.numbers.specs.Answer.{Answer, gives, refused}
+use Rattle.header_tags.specs.Walk.{lengthAt, typeAt, Item, tag, end, itemAt, itemFrom, nextItem, Tags, ended, broken, more, onItem, tagsAt}
+use Rattle.header_tags.specs.Standing.{TagStands, FoundTagsStand, FindsWhatStands, FoundBySameBytes}
+use Rattle.header_tags.proofs.Laws.{one-left, the-end, no-length, no-value, found, next-none, next-item, next-padding, refused-gives, item-stands, from-stands, tags-step}
 
 pub found-tags-stand : FoundTagsStand
 found-tags-stand h p q t n e = from-stands h (length h - p) p e
+
+-- ---- what stands is found
+
+-- the tags from p on, where the next item is known
+by-item : (h : List ℕ) (p : ℕ) {a : Answer Item} → a ≡ nextItem h p → tagsAt h p ≡ onItem a (λ q. tagsAt h q)
+by-item h p e = tags-step h p ∙ ap (λ (i : Answer Item). onItem i (λ q. tagsAt h q)) (sym e)
+
+misfits : (h : List ℕ) (p : ℕ) → p < length h → (p + 2 ≤ length h → typeAt h p ≡ 0 → ⊥) → (p + 4 ≤ length h → length h < p + 4 + lengthAt h p)
+    → Dec (length h - p < 2) → Dec (length h - p < 4) → refused 4 p ≡ itemAt h p
+misfits h p a b d (yes x) y = one-left h p x
+misfits h p a b d (no x) (yes y) = no-length h p (omega arith) (b (omega arith)) y
+misfits h p a b d (no x) (no y) = no-value h p (b (omega arith)) (omega arith) (let w = d (omega arith) in omega arith)
+
+pub finds-what-stands : FindsWhatStands
+finds-what-stands h p =
+    record {
+      tag = λ t n x s. by-item h p
+          (found h p (sym (s .type)) (sym (s .size)) (s .noEnd) (omega (arith, s .fits)) (omega (arith, s .fits)) ∙ next-item h p (omega (arith, s .fits)) x);
+      end = λ a e. by-item h p (the-end h p (omega arith) e ∙ next-item h p (omega arith) (λ z. absurd (omega (arith, e))));
+      misfit = λ a x b d. by-item h p (misfits h p a b d (decLt (length h - p) 2) (decLt (length h - p) 4) ∙ next-item h p a x);
+      none = λ a. by-item h p (next-none h p a);
+    }
+
+-- ---- the same bytes
 
 module _ (h h′ : List ℕ) (behind : ℕ) (same : take behind h ≡ take behind h′) where
   -- each byte, and each part, is the same

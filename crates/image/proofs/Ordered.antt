@@ -24,9 +24,9 @@ use Rattle.header_reader.specs.declared.Header.{Header}
 use Rattle.header_reader.specs.Reading.{magic, bytesAt, tagPlaces, readHeader}
 use Rattle.header_tags.specs.Bytes.{same}
 use Rattle.flash.specs.Sectors.{firmwareOf}
-use Rattle.image.specs.Verdict.{checkOf, CheckedIsUnderstood}
-use Rattle.image.specs.Check.{valuesIn, covered, coveredIn, judged, imageIn}
-use Rattle.image.specs.Ordered.{Covers, EachHasDigestTag, CheckOrdered, ChecksInOrder, ImageNumber, wrongMagic, wrongSize, ofTags, wrongDigest, tooShort, ChecksGiveTheirNumbers, GoodIsUnderstood}
+use Rattle.image.specs.Verdict.{checkOf, ChecksThatImage, CheckedIsUnderstood}
+use Rattle.image.specs.Check.{valuesIn, covered, coveredIn, judged, imageIn, checkImage}
+use Rattle.image.specs.Ordered.{Covers, EachHasDigestTag, CheckOrdered, ChecksInOrder, ImageNumber, wrongMagic, wrongSize, ofTags, wrongDigest, tooShort, ChecksGiveTheirNumbers, ChecksPartitions, GoodIsUnderstood}
 use Rattle.header_tags.proofs.Same.{same-is, same-true}
 use Rattle.header_reader.proofs.Answers.{located, Taken, places-refused, places-taken}
 use Rattle.header_reader.proofs.Understood.{taken-low}
@@ -176,6 +176,14 @@ good-is-understood b v q t e w = go (readHeader b) refl
     go : (a : Answer Header) → readHeader b ≡ a → t < 0x8000
     go (gives u) x = taken-low b u q t x w
     go (refused n p) x = refused-gives (sym (reader-first b n p x) ∙ e)
+
+pub checks-partitions : ChecksPartitions
+unfolding checkImage
+checks-partitions n s l = record { outside = λ m p e. simp e; inside = λ g e. simp e }
+
+pub checks-that-image : ChecksThatImage
+unfolding checkOf
+checks-that-image g l = record { good = λ v e. simp e; bad = λ n p e. simp e }
 
 pub checked-is-understood : CheckedIsUnderstood
 unfolding checkOf

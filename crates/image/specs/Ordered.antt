@@ -12,7 +12,10 @@ use Rattle.header_tags.specs.Standing.{TagAt}
 use Rattle.header_places.specs.Table.{documentTable}
 use Rattle.header_places.specs.RuledOut.{TagNumber}
 use Rattle.header_reader.specs.Reading.{readHeader}
-use Rattle.image.specs.Check.{covered, imageIn}
+use Rattle.flash.specs.declared.Geometry.{Geometry}
+use Rattle.flash.specs.Sectors.{firmwareOf}
+use Rattle.flash.specs.Buffers.{partitionOf}
+use Rattle.image.specs.Check.{covered, imageIn, checkImage}
 
 -- `message` is what the digest of the image b covers, byte by byte, where the digest tag begins at `at` and the firmware has `size` bytes:
 -- first the header's bytes before the tag, all of them and no other; then the firmware's, which begin at 256.
@@ -53,6 +56,14 @@ pub record CheckOrdered (b : List ℕ) : Type 0 where
 
 abbrev pub ChecksInOrder : Type 0
 ChecksInOrder = (b : List ℕ) → CheckOrdered b
+
+-- A partition's check: its geometry and length first, and then the image in its firmware sectors, whatever that check says.
+pub record PartitionOrdered (n s : ℕ) (l : List ℕ) : Type 0 where
+  pub outside : (m p : ℕ) → partitionOf n s l ≡ refused m p → checkImage n s l ≡ refused m p
+  pub inside : (g : Geometry) → partitionOf n s l ≡ gives g → checkImage n s l ≡ imageIn (firmwareOf g l)
+
+abbrev pub ChecksPartitions : Type 0
+ChecksPartitions = (n s : ℕ) (l : List ℕ) → PartitionOrdered n s l
 
 -- So a good image has no tag of a type from 8000 up (document 02, "Tags that must be understood").
 abbrev pub GoodIsUnderstood : Type 0

@@ -28,6 +28,14 @@ released a = then a (λ v. gives (releaseOf v))
 unfoldable pub checkOf : Geometry → List ℕ → Answer ℕ
 checkOf g l = then (imageIn (firmwareOf g l)) (λ v. gives (v .version))
 
+-- It says what the image check says of these sectors: a good image's version, and each refusal with its place. Proved in proofs/.
+pub record SaysOfImage (g : Geometry) (l : List ℕ) : Type 0 where
+  pub good : (v : Header) → imageIn (firmwareOf g l) ≡ gives v → checkOf g l ≡ gives (v .version)
+  pub bad : (n p : ℕ) → imageIn (firmwareOf g l) ≡ refused n p → checkOf g l ≡ refused n p
+
+abbrev pub ChecksThatImage : Type 0
+ChecksThatImage = (g : Geometry) (l : List ℕ) → SaysOfImage g l
+
 -- So a partition that checks has no tag of a type from 8000 up (document 02, "Tags that must be understood"): power-up runs, and mending
 -- fits, no image that has one. Proved in proofs/.
 abbrev pub CheckedIsUnderstood : Type 0
