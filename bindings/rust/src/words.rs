@@ -100,8 +100,8 @@ pub const MEANINGS: [Meaning; 23] = [
         13,
         Place::Nothing,
         "there is no good image to fall back to: the one in UPDATE is bad",
-        "The image in BOOT was not confirmed, and the one before it is damaged. Write a good image to BOOT, by the way that the \
-         printer's maker has for it.",
+        "The image in BOOT was not confirmed, and the one before it is bad, for the reason that stands beside. Write a good image to \
+         BOOT, by the way that the printer's maker has for it.",
     ),
     row(
         14,
@@ -134,9 +134,9 @@ pub const MEANINGS: [Meaning; 23] = [
         18,
         Place::Byte,
         "the header has a tag that must be understood, and its type is not known here",
-        "What the tag states may matter for the release's safety, so that the image is not used without it. Get a newer version of this \
-         program, or of the printer's loader, that knows the type; or have the image made without the tag. If nobody put such a tag \
-         there, the header was damaged: get the file again.",
+        "Who put the tag there wants the image used only where the tag is understood. Get a newer version of this program, or of the \
+         printer's loader, that knows the type; or have the image made without the tag. If nobody put such a tag there, the header was \
+         damaged: get the file again.",
     ),
     row(
         101,

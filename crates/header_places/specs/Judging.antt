@@ -1,4 +1,4 @@
--- Document 01, "The header": the tags in their order, judged by the table.
+-- Document 01, "The header", with document 02, "Tags that must be understood": the tags in their order, judged by the table.
 use mathlib.Core.Path.{_≡_}
 use Prim.Native.Nat.{ℕ, suc, _+_, _≤_, _<_}
 use mathlib.Core.List.{List, [], _∷_}

@@ -1,5 +1,5 @@
--- Document 01, "The header": what the table makes of a tag, whatever was seen and whatever follows, and the numbers that it gives.
--- Each statement is proved in proofs/.
+-- Document 01, "The header", with document 02, "Tags that must be understood": what the table makes of a tag, whatever was seen and
+-- whatever follows, and the numbers that it gives. Each statement is proved in proofs/.
 use mathlib.Core.Path.{_≡_}
 use Prim.Native.Nat.{ℕ, _≤_, _<_}
 use mathlib.Core.List.{List}

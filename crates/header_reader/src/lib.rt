@@ -182,7 +182,7 @@ fn refuse(o: HeaderOutcome) -> HeaderAnswer
     }
 }
 
-// Where the tags of the header in the first 256 bytes of a lent buffer stand. Nothing is copied.
+// Where the tags of the header in the first 256 bytes of a lent buffer stand. No byte of the header is copied.
 pub fn locate(s: &[u8]) -> Places
     ensures { λ r. ⌜ Finds (tagPlaces (now (s .entry))) r ⌝ }
 {

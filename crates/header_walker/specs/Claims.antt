@@ -18,8 +18,8 @@ entryAt (broken m q) n = refused m q
 entryAt (more q t k rest) zero = gives (tag q t k)
 entryAt (more q t k rest) (suc n) = entryAt rest n
 
--- A new walker gives all tags of the header, one at a time and in their order, those of skipped and of refused types too, and then how the walk stops.
--- They are the tags that the reader judges.
+-- A new walker gives all tags of the header, one at a time and in their order, those of skipped and of refused types too, and then how the
+-- walk stops. They are the tags that the reader judges.
 abbrev pub AllTags : Type 0
 AllTags = (s : RefT (List ℕ)) (n : ℕ) → 256 ≤ length (now s) → callAnswer n (startOf s) ≡ entryAt (tagsAt (take 256 (now s)) firstTag) n
 

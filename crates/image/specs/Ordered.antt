@@ -57,6 +57,10 @@ pub record CheckOrdered (b : List ℕ) : Type 0 where
 abbrev pub ChecksInOrder : Type 0
 ChecksInOrder = (b : List ℕ) → CheckOrdered b
 
+-- So a good image has no tag of a type from 8000 up (document 02, "Tags that must be understood").
+abbrev pub GoodIsUnderstood : Type 0
+GoodIsUnderstood = (b : List ℕ) (v : Header) (q t : ℕ) → imageIn b ≡ gives v → TagAt b q t → t < 0x8000
+
 -- A partition's check: its geometry and length first, and then the image in its firmware sectors, whatever that check says.
 pub record PartitionOrdered (n s : ℕ) (l : List ℕ) : Type 0 where
   pub outside : (m p : ℕ) → partitionOf n s l ≡ refused m p → checkImage n s l ≡ refused m p
@@ -64,10 +68,6 @@ pub record PartitionOrdered (n s : ℕ) (l : List ℕ) : Type 0 where
 
 abbrev pub ChecksPartitions : Type 0
 ChecksPartitions = (n s : ℕ) (l : List ℕ) → PartitionOrdered n s l
-
--- So a good image has no tag of a type from 8000 up (document 02, "Tags that must be understood").
-abbrev pub GoodIsUnderstood : Type 0
-GoodIsUnderstood = (b : List ℕ) (v : Header) (q t : ℕ) → imageIn b ≡ gives v → TagAt b q t → t < 0x8000
 
 -- The numbers of a bad image, with their places: those of the tests before the walk, those of the header's tags, and the digest's.
 pub data ImageNumber : ℕ → ℕ → Type 0 where
