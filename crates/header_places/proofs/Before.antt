@@ -4,7 +4,7 @@ use Prim.Native.Nat.{ℕ, zero, suc, _+_, _-_, _<_, _≤_}
 use mathlib.Core.List.{List}
 use mathlib.Core.Bool.{Bool, true, false, cond}
 use native.Mathlib.Omega.{arith}
-use native.Mathlib.Decide.{ℕ-discrete, decLt}
+use native.Mathlib.Decide.{ℕ-discrete}
 use lib.ListN.{length, getD, take, set, replicate, length-set, length-replicate}
 use lib.Seq.{length-take-le, getD-set-same, getD-set-other, getD-take}
 use mathlib.Core.Logic.{_≢_, _⊎_, inl, inr}
@@ -19,7 +19,7 @@ use Rattle.header_places.specs.Table.{TagTable}
 use Rattle.header_places.specs.Judging.{rowOf, judge, placesIn}
 use Rattle.header_places.specs.RuledOut.{InRow}
 use Rattle.header_places.specs.Before.{RowStands, PlacesAreTags, TagsHavePlaces, RequiredAreSeen, TagEnds, TagsBefore}
-use Rattle.header_places.proofs.RuledOut.{row-of, row-type, row-all, other-tag, critical-tag, length-tag, repeated-tag, taken-tag}
+use Rattle.header_places.proofs.RuledOut.{row-of, row-type, row-all, Verdict, is-skipped, is-critical, has-length, is-repeated, is-taken, verdict}
 use Rattle.header_places.proofs.Judged.{Goes, begun}
 
 -- ---- one tag
@@ -37,38 +37,28 @@ record Step (T : TagTable) (seen : List ℕ) (q t n : ℕ) : Type 0 where
   row : (i : ℕ) → Row T seen q t n after i
   own : rowOf (T .types) t < length (T .types) → getD after (rowOf (T .types) t) 0 ≡ q
 
--- with the row r of its type
-step-of : (T : TagTable) (seen places : List ℕ) (q t n : ℕ) (rest : Tags) (r : ℕ) → rowOf (T .types) t ≡ r → length seen ≡ length (T .types)
+step-of : (T : TagTable) (seen places : List ℕ) (q t n : ℕ) (rest : Tags) → length seen ≡ length (T .types)
     → judge T seen (more q t n rest) ≡ gives places → Step T seen q t n
-step-of T seen places q t n rest r is rows e =
-    go (decLt r (length (T .types))) (ℕ-discrete n (getD (T .lengths) r 0)) (ℕ-discrete (getD seen r 0) 0) (decLt t (T .critical))
+step-of T seen places q t n rest rows e = go (verdict T seen q t n)
   where
-    go : Dec (r < length (T .types)) → Dec (n ≡ getD (T .lengths) r 0) → Dec (getD seen r 0 ≡ 0) → Dec (t < T .critical) → Step T seen q t n
-    go (no a) b d (yes low) =
+    go : Verdict T seen q t n → Step T seen q t n
+    go (is-skipped a b goes) =
+        record { after = seen; sized = rows; goes = goes; row = λ i. stays refl; own = λ lt. absurd (omega arith) }
+    go (is-critical a b goes) = refused-gives (sym (goes rest) ∙ e)
+    go (has-length a b goes) = refused-gives (sym (goes rest) ∙ e)
+    go (is-repeated a b d goes) = refused-gives (sym (goes rest) ∙ e)
+    go (is-taken a b d goes) =
         record {
-          after = seen;
-          sized = rows;
-          goes = λ rest. other-tag T seen q t n rest is (omega arith) low;
-          row = λ i. stays refl;
-          own = λ lt. absurd (omega (arith, is));
-        }
-    go (no a) b d (no high) = refused-gives (sym (critical-tag T seen q t n rest is (omega arith) (omega arith)) ∙ e)
-    go (yes a) (no b) d f = refused-gives (sym (length-tag T seen q t n rest is a b) ∙ e)
-    go (yes a) (yes b) (no d) f = refused-gives (sym (repeated-tag T seen q t n rest is a b d) ∙ e)
-    go (yes a) (yes b) (yes d) f =
-        record {
-          after = set seen r q;
-          sized = length-set seen r q ∙ rows;
-          goes = λ rest. taken-tag T seen q t n rest is a b d;
-          row = λ i. at i (ℕ-discrete i r);
-          own = λ lt. rw is (getD-set-same seen r q 0 (omega arith));
+          after = set seen (rowOf (T .types) t) q;
+          sized = length-set seen (rowOf (T .types) t) q ∙ rows;
+          goes = goes;
+          row = λ i. at i (ℕ-discrete i (rowOf (T .types) t));
+          own = λ lt. getD-set-same seen (rowOf (T .types) t) q 0 (omega arith);
         }
       where
-        at : (i : ℕ) → Dec (i ≡ r) → Row T seen q t n (set seen r q) i
-        at i (yes x) =
-            let type : getD (T .types) r 0 ≡ t = rw (← is) (row-type (T .types) t (omega arith)) in
-            rw x (comes d (getD-set-same seen r q 0 (omega arith)) type (sym b))
-        at i (no x) = stays (getD-set-other seen r i q 0 x)
+        at : (i : ℕ) → Dec (i ≡ rowOf (T .types) t) → Row T seen q t n (set seen (rowOf (T .types) t) q) i
+        at i (yes x) = rw x (comes d (getD-set-same seen (rowOf (T .types) t) q 0 (omega arith)) (row-type (T .types) t a) (sym b))
+        at i (no x) = stays (getD-set-other seen (rowOf (T .types) t) i q 0 x)
 
 -- ---- all tags
 
@@ -91,7 +81,7 @@ from-walk T h places (suc n) p seen pos rows e = go (λ q s. from-walk T h place
     go ih (gives (tag q t v)) i e =
         let w = found-tags-stand h p q t v i in
         let rest = tagsFrom h n (q + 4 + v) in
-        let s = step-of T seen places q t v rest (rowOf (T .types) t) refl rows e in
+        let s = step-of T seen places q t v rest rows e in
         next q t v (omega arith) i s (ih (q + 4 + v) (s .after) (omega arith) (s .sized) (sym (s .goes rest) ∙ e))
     go ih (gives end) i e = end-of (ltb (rowOf (take (T .required) seen) 0) (T .required)) refl e
       where

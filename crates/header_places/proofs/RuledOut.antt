@@ -5,6 +5,7 @@ use Prim.Native.Nat.{ℕ, zero, suc, _+_, _-_, _<_, _≤_}
 use mathlib.Core.List.{List, [], _∷_}
 use mathlib.Core.Bool.{Bool, true, false, cond, true≢false}
 use native.Mathlib.Omega.{arith}
+use native.Mathlib.Decide.{ℕ-discrete, decLt}
 use lib.ListN.{length, getD, take, set, replicate}
 use lib.Seq.{length-take-le, getD-take}
 use lib.Dec.{ltb, eqb}
@@ -109,6 +110,36 @@ tags-are-judged T seen q t n rest =
       repeated = λ r i. repeated-tag T seen q t n rest (row-of i) (i .row);
       taken = λ r i. taken-tag T seen q t n rest (row-of i) (i .row);
     }
+
+-- what a tag is, and what the table makes of it whatever follows: one of five
+pub data Verdict (T : TagTable) (seen : List ℕ) (q t n : ℕ) : Type 0 where
+  is-skipped : length (T .types) ≤ rowOf (T .types) t → t < T .critical → ((rest : Tags) → judge T seen (more q t n rest) ≡ judge T seen rest)
+      → Verdict T seen q t n
+  is-critical : length (T .types) ≤ rowOf (T .types) t → T .critical ≤ t → ((rest : Tags) → judge T seen (more q t n rest) ≡ refused 18 q)
+      → Verdict T seen q t n
+  has-length : rowOf (T .types) t < length (T .types) → n ≢ getD (T .lengths) (rowOf (T .types) t) 0
+      → ((rest : Tags) → judge T seen (more q t n rest) ≡ refused 5 q) → Verdict T seen q t n
+  is-repeated : rowOf (T .types) t < length (T .types) → n ≡ getD (T .lengths) (rowOf (T .types) t) 0 → getD seen (rowOf (T .types) t) 0 ≢ 0
+      → ((rest : Tags) → judge T seen (more q t n rest) ≡ refused 6 q) → Verdict T seen q t n
+  is-taken : rowOf (T .types) t < length (T .types) → n ≡ getD (T .lengths) (rowOf (T .types) t) 0 → getD seen (rowOf (T .types) t) 0 ≡ 0
+      → ((rest : Tags) → judge T seen (more q t n rest) ≡ judge T (set seen (rowOf (T .types) t) q) rest) → Verdict T seen q t n
+
+pub verdict : (T : TagTable) (seen : List ℕ) (q t n : ℕ) → Verdict T seen q t n
+verdict T seen q t n =
+    go (decLt (rowOf (T .types) t) (length (T .types))) (decLt t (T .critical)) (ℕ-discrete n (getD (T .lengths) (rowOf (T .types) t) 0))
+    (ℕ-discrete (getD seen (rowOf (T .types) t) 0) 0)
+  where
+    go : Dec (rowOf (T .types) t < length (T .types)) → Dec (t < T .critical) → Dec (n ≡ getD (T .lengths) (rowOf (T .types) t) 0)
+        → Dec (getD seen (rowOf (T .types) t) 0 ≡ 0) → Verdict T seen q t n
+    go (no a) (yes b) c d =
+        let w : length (T .types) ≤ rowOf (T .types) t = omega arith in is-skipped w b (λ rest. other-tag T seen q t n rest refl w b)
+    go (no a) (no b) c d =
+        let w : length (T .types) ≤ rowOf (T .types) t = omega arith in
+        let k : T .critical ≤ t = omega arith in
+        is-critical w k (λ rest. critical-tag T seen q t n rest refl w k)
+    go (yes a) b (no c) d = has-length a c (λ rest. length-tag T seen q t n rest refl a c)
+    go (yes a) b (yes c) (no d) = is-repeated a c d (λ rest. repeated-tag T seen q t n rest refl a c d)
+    go (yes a) b (yes c) (yes d) = is-taken a c d (λ rest. taken-tag T seen q t n rest refl a c d)
 
 -- ---- the end, judged
 

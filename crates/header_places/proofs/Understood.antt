@@ -5,7 +5,7 @@ use mathlib.Core.List.{List}
 use mathlib.Core.Bool.{Bool, true, false, cond}
 use mathlib.Core.Logic.{_⊎_, inl, inr}
 use native.Mathlib.Omega.{arith}
-use native.Mathlib.Decide.{ℕ-discrete, decLt}
+use native.Mathlib.Decide.{decLt}
 use lib.ListN.{length, getD, take, set, replicate}
 use lib.Dec.{ltb}
 use Rattle.numbers.specs.Answer.{Answer, gives, refused}
@@ -19,7 +19,7 @@ use Rattle.header_places.specs.Table.{TagTable, boundedBy}
 use Rattle.header_places.specs.Judging.{rowOf, judge, placesIn}
 use Rattle.header_places.specs.RuledOut.{Known, Unknown}
 use Rattle.header_places.specs.Understood.{Passed, arrived, skipped, taken, RestDecides, NotUnderstood, EighteenExactly, Understood, EighteenTells, told, ofLength, again, RefusedUpTo, EachIsRefused, TakenIsUnderstood, ReadAsBefore, TableSays, TablesAsHanded}
-use Rattle.header_places.proofs.RuledOut.{known, not-known, unknown, in-row, row-of, other-tag, critical-tag, length-tag, repeated-tag, taken-tag, Breaks, tags-break}
+use Rattle.header_places.proofs.RuledOut.{known, not-known, unknown, in-row, row-of, other-tag, critical-tag, length-tag, repeated-tag, taken-tag, Verdict, is-skipped, is-critical, has-length, is-repeated, is-taken, verdict, Breaks, tags-break}
 use Rattle.header_places.proofs.Before.{no-more, first-or-behind}
 
 -- ---- what is passed has no other say
@@ -76,31 +76,25 @@ stops T l q (broken m x) seen w e = on m x w e
     on : (m x : ℕ) → WalkNumber l m x → _≡_ {A = Answer (List ℕ)} (refused m x) (refused 18 q) → Stops T seen (broken m x) q
     on m x (doesNotFit y) e = not-eighteen (λ z. omega arith) e
     on m x noEnd e = not-eighteen (λ z. omega arith) e
-stops T l q (more x u v tags) seen w e =
-    by (decLt (rowOf (T .types) u) (length (T .types))) (decLt u (T .critical)) (ℕ-discrete v (getD (T .lengths) (rowOf (T .types) u) 0))
-    (ℕ-discrete (getD seen (rowOf (T .types) u) 0) 0) (λ s. stops T l q tags s w)
+stops T l q (more x u v tags) seen w e = by (λ s. stops T l q tags s w) (verdict T seen x u v)
   where
-    by : Dec (rowOf (T .types) u < length (T .types)) → Dec (u < T .critical) → Dec (v ≡ getD (T .lengths) (rowOf (T .types) u) 0)
-        → Dec (getD seen (rowOf (T .types) u) 0 ≡ 0) → ((s : List ℕ) → judge T s tags ≡ refused 18 q → Stops T s tags q)
-        → Stops T seen (more x u v tags) q
-    by (no a) (yes b) c d ih =
-        stops-behind (λ after rest p. skipped x u v (unknown T u (omega arith)) b p) (ih seen (sym (other-tag T seen x u v tags refl (omega arith) b) ∙ e))
-    by (no a) (no b) c d ih =
-        let at : x ≡ q = place-same (sym (critical-tag T seen x u v tags refl (omega arith) (omega arith)) ∙ e) in
+    by : ((s : List ℕ) → judge T s tags ≡ refused 18 q → Stops T s tags q) → Verdict T seen x u v → Stops T seen (more x u v tags) q
+    by ih (is-skipped a b goes) = stops-behind (λ after rest p. skipped x u v (unknown T u a) b p) (ih seen (sym (goes tags) ∙ e))
+    by ih (is-critical a b goes) =
         record {
           type = u;
           size = v;
           after = seen;
           rest = tags;
-          reached = subst (λ (z : ℕ). Passed T seen (more z u v tags) seen (more x u v tags)) at arrived;
-          unknown-type = unknown T u (omega arith);
-          high = omega arith;
+          reached = subst (λ (z : ℕ). Passed T seen (more z u v tags) seen (more x u v tags)) (place-same (sym (goes tags) ∙ e)) arrived;
+          unknown-type = unknown T u a;
+          high = b;
         }
-    by (yes a) b (no c) d ih = not-eighteen (λ z. omega arith) (sym (length-tag T seen x u v tags refl a c) ∙ e)
-    by (yes a) b (yes c) (no d) ih = not-eighteen (λ z. omega arith) (sym (repeated-tag T seen x u v tags refl a c d) ∙ e)
-    by (yes a) b (yes c) (yes d) ih =
-        stops-behind (λ after rest p. taken x u v (rowOf (T .types) u) (in-row T u a) c d p)
-        (ih (set seen (rowOf (T .types) u) x) (sym (taken-tag T seen x u v tags refl a c d) ∙ e))
+    by ih (has-length a b goes) = not-eighteen (λ z. omega arith) (sym (goes tags) ∙ e)
+    by ih (is-repeated a b d goes) = not-eighteen (λ z. omega arith) (sym (goes tags) ∙ e)
+    by ih (is-taken a b d goes) =
+        stops-behind (λ after rest p. taken x u v (rowOf (T .types) u) (in-row T u a) b d p)
+        (ih (set seen (rowOf (T .types) u) x) (sym (goes tags) ∙ e))
 
 pub eighteen-exactly : EighteenExactly
 unfolding placesIn
@@ -213,15 +207,12 @@ each T h q t un high p ended seen l w = absurd (no-more refl w)
 each T h q t un high p (broken m x) seen l w = absurd (no-more refl w)
 each T h q t un high p (more x u v tags) seen l w = on (λ s y. each T h q t un high (x + 4 + v) tags s (l .2) y) (first-or-behind w refl)
   where
-    by : x < q → ((s : List ℕ) → RefusedUpTo q (judge T s tags)) → Dec (rowOf (T .types) u < length (T .types)) → Dec (u < T .critical)
-        → Dec (v ≡ getD (T .lengths) (rowOf (T .types) u) 0) → Dec (getD seen (rowOf (T .types) u) 0 ≡ 0)
-        → RefusedUpTo q (judge T seen (more x u v tags))
-    by lt ih (no a) (yes b) c d = carried-on (other-tag T seen x u v tags refl (omega arith) b) (ih seen)
-    by lt ih (no a) (no b) c d =
-        record { number = 18; place = x; is = critical-tag T seen x u v tags refl (omega arith) (omega arith); order = told x (omega arith) }
-    by lt ih (yes a) b (no c) d = record { number = 5; place = x; is = length-tag T seen x u v tags refl a c; order = ofLength x lt }
-    by lt ih (yes a) b (yes c) (no d) = record { number = 6; place = x; is = repeated-tag T seen x u v tags refl a c d; order = again x lt }
-    by lt ih (yes a) b (yes c) (yes d) = carried-on (taken-tag T seen x u v tags refl a c d) (ih (set seen (rowOf (T .types) u) x))
+    by : x < q → ((s : List ℕ) → RefusedUpTo q (judge T s tags)) → Verdict T seen x u v → RefusedUpTo q (judge T seen (more x u v tags))
+    by lt ih (is-skipped a b goes) = carried-on (goes tags) (ih seen)
+    by lt ih (is-critical a b goes) = record { number = 18; place = x; is = goes tags; order = told x (omega arith) }
+    by lt ih (has-length a b goes) = record { number = 5; place = x; is = goes tags; order = ofLength x lt }
+    by lt ih (is-repeated a b d goes) = record { number = 6; place = x; is = goes tags; order = again x lt }
+    by lt ih (is-taken a b d goes) = carried-on (goes tags) (ih (set seen (rowOf (T .types) u) x))
 
     on : ((s : List ℕ) → Walked tags q t → RefusedUpTo q (judge T s tags)) → ((q ≡ x) × (t ≡ u)) ⊎ Walked tags q t
         → RefusedUpTo q (judge T seen (more x u v tags))
@@ -233,8 +224,7 @@ each T h q t un high p (more x u v tags) seen l w = on (λ s y. each T h q t un 
           order = told x (omega (arith, y .0));
         }
     on ih (inr y) =
-        by (omega (arith, from-place h (x + 4 + v) q t tags (l .2) y)) (λ s. ih s y) (decLt (rowOf (T .types) u) (length (T .types))) (decLt u (T .critical))
-        (ℕ-discrete v (getD (T .lengths) (rowOf (T .types) u) 0)) (ℕ-discrete (getD seen (rowOf (T .types) u) 0) 0)
+        by (omega (arith, from-place h (x + 4 + v) q t tags (l .2) y)) (λ s. ih s y) (verdict T seen x u v)
 
 pub each-is-refused : EachIsRefused
 unfolding placesIn
@@ -261,20 +251,16 @@ unfolding judge
 same-under T bound ended k seen = refl
 same-under T bound (broken n p) k seen = refl
 same-under T bound (more q t n rest) k seen =
-    go (same-under T bound rest (λ x u w. k x u (behind x u q t n rest w))) (k q t (here q t n rest)) (decLt (rowOf (T .types) t) (length (T .types)))
-    (ℕ-discrete n (getD (T .lengths) (rowOf (T .types) t) 0)) (ℕ-discrete (getD seen (rowOf (T .types) t) 0) 0)
+    go (same-under T bound rest (λ x u w. k x u (behind x u q t n rest w))) (k q t (here q t n rest) .1) (verdict T seen q t n)
   where
-    go : ((s : List ℕ) → judge (boundedBy bound T) s rest ≡ judge T s rest) → Understood T t × Understood (boundedBy bound T) t
-        → Dec (rowOf (T .types) t < length (T .types)) → Dec (n ≡ getD (T .lengths) (rowOf (T .types) t) 0)
-        → Dec (getD seen (rowOf (T .types) t) 0 ≡ 0) → judge (boundedBy bound T) seen (more q t n rest) ≡ judge T seen (more q t n rest)
-    go ih u (no a) c d =
-        let b : length (T .types) ≤ rowOf (T .types) t = omega arith in
-        other-tag (boundedBy bound T) seen q t n rest refl b (low b (u .1)) ∙ ih seen ∙ sym (other-tag T seen q t n rest refl b (low b (u .0)))
-    go ih u (yes a) (no c) d = length-tag (boundedBy bound T) seen q t n rest refl a c ∙ sym (length-tag T seen q t n rest refl a c)
-    go ih u (yes a) (yes c) (no d) =
-        repeated-tag (boundedBy bound T) seen q t n rest refl a c d ∙ sym (repeated-tag T seen q t n rest refl a c d)
-    go ih u (yes a) (yes c) (yes d) =
-        taken-tag (boundedBy bound T) seen q t n rest refl a c d ∙ ih (set seen (rowOf (T .types) t) q) ∙ sym (taken-tag T seen q t n rest refl a c d)
+    go : ((s : List ℕ) → judge (boundedBy bound T) s rest ≡ judge T s rest) → Understood (boundedBy bound T) t → Verdict T seen q t n
+        → judge (boundedBy bound T) seen (more q t n rest) ≡ judge T seen (more q t n rest)
+    go ih u (is-skipped a b goes) = other-tag (boundedBy bound T) seen q t n rest refl a (low a u) ∙ ih seen ∙ sym (goes rest)
+    go ih u (is-critical a b goes) = absurd (omega (arith, low a (k q t (here q t n rest) .0)))
+    go ih u (has-length a b goes) = length-tag (boundedBy bound T) seen q t n rest refl a b ∙ sym (goes rest)
+    go ih u (is-repeated a b d goes) = repeated-tag (boundedBy bound T) seen q t n rest refl a b d ∙ sym (goes rest)
+    go ih u (is-taken a b d goes) =
+        taken-tag (boundedBy bound T) seen q t n rest refl a b d ∙ ih (set seen (rowOf (T .types) t) q) ∙ sym (goes rest)
 
 -- a known type is known whatever the bound is
 pub known-under : {T : TagTable} {t : ℕ} (bound : ℕ) → Known T t → Known (boundedBy bound T) t

@@ -1,13 +1,12 @@
 -- Which tags the reader refuses for their type. Assumes nothing.
 use mathlib.Core.Path.{_≡_, refl, sym, ap, _∙_}
 use mathlib.Core.Logic.{_↔_, inl, inr}
-use Prim.Native.Nat.{ℕ, zero, suc, _≤_, _<_}
+use Prim.Native.Nat.{ℕ, _≤_, _<_}
 use mathlib.Core.List.{List}
-use mathlib.Core.Bool.{Bool, true, false, cond, not}
 use native.Mathlib.Omega.{arith}
 use native.Mathlib.Decide.{decLt, ℕ-discrete}
 use lib.ListN.{length, getD, take}
-use lib.Dec.{ltb, eqb}
+use lib.Dec.{lit<}
 use Rattle.numbers.specs.Answer.{Answer, gives, refused, then}
 use Rattle.header_tags.specs.Bytes.{AllBytes, number}
 use Rattle.header_tags.specs.Standing.{TagAt}
@@ -15,23 +14,18 @@ use Rattle.header_places.specs.Table.{documentTable}
 use Rattle.header_places.specs.Judging.{placesIn}
 use Rattle.header_places.specs.RuledOut.{Unknown}
 use Rattle.header_places.specs.Understood.{NotUnderstood, Understood, RefusedUpTo}
+use Rattle.header_places.proofs.Fitting.{entry-below}
 use Rattle.header_places.proofs.Understood.{not-eighteen, eighteen-exactly, eighteen-tells, each-is-refused, taken-is-understood}
 use Rattle.header_reader.specs.declared.Header.{Header}
-use Rattle.header_reader.specs.Reading.{magic, bytesAt, tagPlaces, valuesAt, readHeader}
+use Rattle.header_reader.specs.Reading.{magic, bytesAt, valuesAt, readHeader}
 use Rattle.header_reader.specs.Refusing.{HasMagic, HasSizeZero, CriticalTag, WhatIsUnderstood}
-use Rattle.header_reader.proofs.Answers.{short, no-magic, no-size, located, by-places, places-refused, places-taken}
+use Rattle.header_reader.proofs.Answers.{short, no-magic, no-size, by-tags, located, by-places, places-refused, places-taken}
 use Rattle.header_reader.proofs.Refusing.{has-magic, zero-there, when-reader-refuses}
 
 -- ---- document 01's table
 
 low : (r : ℕ) → r < 6 → getD (documentTable .types) r 0 < 0x8000
-low zero lt = omega arith
-low (suc zero) lt = omega arith
-low (suc (suc zero)) lt = omega arith
-low (suc (suc (suc zero))) lt = omega arith
-low (suc (suc (suc (suc zero)))) lt = omega arith
-low (suc (suc (suc (suc (suc zero))))) lt = omega arith
-low (suc (suc (suc (suc (suc (suc r)))))) lt = absurd (omega arith)
+low = entry-below 0x8000 (documentTable .types) (lit< tt, (lit< tt, (lit< tt, (lit< tt, (lit< tt, (lit< tt, tt))))))
 
 none-high : (t : ℕ) → 0x8000 ≤ t → Unknown documentTable t
 none-high t high k = absurd (omega (arith, low (k .row) (k .below), k .here))
@@ -48,32 +42,6 @@ module _ (s : List ℕ) where
   taken-low v q t e w =
       let p = places-taken s v e in
       understood-low t (taken-is-understood documentTable (take 256 s) (p .places) q t (located s (p .places) (p .found) .found) w)
-
-  -- 18 comes from the walk
-  of-the-walk : (q : ℕ) → tagPlaces s ≡ refused 18 q → placesIn documentTable (take 256 s) ≡ refused 18 q
-  unfolding tagPlaces
-  of-the-walk q e =
-      go (ltb (length s) 256) (eqb (number (bytesAt (take 256 s) 0 4)) (number magic)) (eqb (number (bytesAt (take 256 s) 4 4)) 0) e
-    where
-      go : (b₁ b₂ b₃ : Bool)
-          → cond b₁ (refused 16 0) (cond (not b₂) (refused 2 0) (cond b₃ (refused 3 4) (placesIn documentTable (take 256 s)))) ≡ refused 18 q
-          → placesIn documentTable (take 256 s) ≡ refused 18 q
-      go true b₂ b₃ e = not-eighteen (λ z. omega arith) e
-      go false false b₃ e = not-eighteen (λ z. omega arith) e
-      go false true true e = not-eighteen (λ z. omega arith) e
-      go false true false e = e
-
-  tells-critical : (q : ℕ) → readHeader s ≡ refused 18 q → CriticalTag s q
-  tells-critical q e =
-      let w = eighteen-tells documentTable (take 256 s) q (of-the-walk q (places-refused s 18 q e)) in
-      record {
-        type = w .type;
-        size = w .size;
-        tag = w .walked;
-        whole = w .whole;
-        high = w .high;
-        first = λ p t a lt. understood-low t (w .first p t a lt);
-      }
 
   module _ (bytes : AllBytes s) where
     -- the walk's answer, where the tests before it find nothing
@@ -99,8 +67,20 @@ module _ (s : List ℕ) where
           omega arith,
           has-magic s bytes (omega arith) m,
           λ y. z (zero-there s bytes (omega arith) y),
-          eighteen-exactly documentTable (take 256 s) q .0 (of-the-walk q (places-refused s 18 q e)),
+          eighteen-exactly documentTable (take 256 s) q .0 (sym (by-tags s (omega arith) refl m refl z) ∙ places-refused s 18 q e),
         )
+
+    tells-critical : (q : ℕ) → readHeader s ≡ refused 18 q → CriticalTag s q
+    tells-critical q e =
+        let w = eighteen-tells documentTable (take 256 s) q (eighteen-exactly documentTable (take 256 s) q .1 (exactly-critical q .0 e .3)) in
+        record {
+          type = w .type;
+          size = w .size;
+          tag = w .walked;
+          whole = w .whole;
+          high = w .high;
+          first = λ p t a lt. understood-low t (w .first p t a lt);
+        }
 
     refuses-critical : (q t : ℕ) → 256 ≤ length s → HasMagic s → (HasSizeZero s → ⊥) → TagAt s q t → 0x8000 ≤ t → RefusedUpTo q (readHeader s)
     refuses-critical q t room m z w high =
@@ -112,6 +92,6 @@ what-is-understood s bytes =
     record {
       taken = taken-low s;
       exactly = exactly-critical s bytes;
-      tells = tells-critical s;
+      tells = tells-critical s bytes;
       refuses = refuses-critical s bytes;
     }
