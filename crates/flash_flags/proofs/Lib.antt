@@ -2,8 +2,9 @@
 -- The place of the flags; half bytes
 pub mod Room
 pub mod Halves
--- the loops over the flags; what the flags show; each write against every sector, flag and status byte; flags that move on
+-- the loops over the flags; what the flags show; each write against every sector, flag and status byte; flags that move on; the front
 pub mod Scan
 pub mod Shown
 pub mod Laws
 pub mod Moves
+pub mod Front

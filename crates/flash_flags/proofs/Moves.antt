@@ -1,5 +1,6 @@
 -- Each flag makes three moves, from F to 0. After a moves from all F, sector by sector, sector j has a - 3 j moves behind it.
 use mathlib.Core.Path.{_≡_, refl, sym, ap, _∙_}
+use mathlib.Core.Logic.{_≢_}
 use mathlib.Core.List.{List}
 use Prim.Native.Nat.{ℕ, zero, suc, _+_, _-_, _*_, _≤_, _<_}
 use native.Mathlib.Decide.{ℕ-discrete, decLt}
@@ -16,7 +17,7 @@ use Rattle.flash_flags.specs.declared.Leg.the-variants.{UpdateToSwap, Bo
 use Rattle.flash_flags.specs.declared.Flags.{Flags}
 use Rattle.flash_flags.specs.declared.Flags.the-variants.{AllF, At, All0}
 use Rattle.flash_flags.specs.SectorFlags.{moved, legFlag, legMoves, flagAt, setFlag, flagsAt}
-use Rattle.flash_flags.proofs.Shown.{shown-all-F, shown-all-0, shown-at, each-F}
+use Rattle.flash_flags.proofs.Shown.{shown-all-F, shown-all-0, shown-at, each-F, ShownAt, each-at}
 use Rattle.flash_flags.proofs.Laws.{flag-same, flag-other}
 
 pub leg-moved : (leg : Leg) → moved (legMoves leg) ≡ legFlag leg
@@ -79,6 +80,32 @@ module _ (g : Geometry) (u : List ℕ) where
 
 pub moves-none : (g : Geometry) (u : List ℕ) → flagsAt g u ≡ AllF → AfterMoves g u 0
 moves-none g u e j hj = each-F g u e j hj ∙ ap Known (sym (moved-none (0 - 3 * j) (omega arith)))
+
+-- the flags that show a leg of sector i
+pub at-leg : (i : ℕ) (leg : Leg) → (i ≡ 0 → leg ≢ UpdateToSwap) → At (sectorNumber i) leg ≡ atLeg i leg
+at-leg zero UpdateToSwap n = absurd (n refl refl)
+at-leg zero BootToUpdate n = refl
+at-leg zero SwapToBoot n = refl
+at-leg (suc i) leg n = refl
+
+moves-shown : (g : Geometry) (u : List ℕ) (i : ℕ) (leg : Leg) → flagsAt g u ≡ At (sectorNumber i) leg → AfterMoves g u (3 * i + legMoves leg)
+moves-shown g u i leg e j hj = by (ℕ-discrete j i) (decLt j i)
+  where
+    f : ShownAt g u i leg
+    f = each-at g u (sectorNumber i) leg e
+
+    by : Dec (j ≡ i) → Dec (j < i) → flagAt g u j ≡ Known (moved (3 * i + legMoves leg - 3 * j))
+    by (yes q) d =
+        let n : legMoves leg ≡ 3 * i + legMoves leg - 3 * j = omega arith in
+        ap (flagAt g u) q ∙ f .here ∙ ap Known (sym (leg-moved leg) ∙ ap moved n)
+    by (no q) (yes d) = f .before j d ∙ ap Known (sym (moved-all (3 * i + legMoves leg - 3 * j) (omega arith)))
+    by (no q) (no d) = f .after j (omega arith) hj ∙ ap Known (sym (moved-none (3 * i + legMoves leg - 3 * j) (omega (arith, leg-below leg))))
+
+pub moves-leg : (g : Geometry) (u : List ℕ) (i : ℕ) (leg : Leg) → flagsAt g u ≡ atLeg i leg → AfterMoves g u (3 * i + legMoves leg)
+moves-leg g u zero UpdateToSwap e = moves-none g u e
+moves-leg g u zero BootToUpdate e = moves-shown g u 0 BootToUpdate e
+moves-leg g u zero SwapToBoot e = moves-shown g u 0 SwapToBoot e
+moves-leg g u (suc i) leg e = moves-shown g u (suc i) leg e
 
 -- the flag write at the end of sector i's leg is one move
 module _ (g : Geometry) (G : Limits g) (u : List ℕ) (U : length u ≡ partitionSize g) (i : ℕ) (leg : Leg) (hi : i < firmware g) where

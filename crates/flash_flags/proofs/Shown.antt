@@ -1,7 +1,7 @@
 -- What the flags show, by each sector's flag; and each sector's flag, by what they show.
 use mathlib.Core.Path.{_≡_, refl, sym, ap, ap₂, _∙_}
 use mathlib.Core.Logic.{_≢_}
-use mathlib.Core.Bool.{Bool, true, false, cond, _&&_}
+use mathlib.Core.Bool.{Bool, true, false, cond}
 use mathlib.Core.List.{List, [], _∷_}
 use Prim.Native.Nat.{ℕ, zero, suc, _+_, _≤_, _<_}
 use native.Mathlib.Decide.{ℕ-discrete}
@@ -11,7 +11,6 @@ use Rattle.flash.specs.declared.Geometry.{Geometry}
 use Rattle.flash.specs.declared.SectorNumber.{SectorNumber}
 use Rattle.flash.specs.Sizes.{firmware}
 use Rattle.flash.specs.Sectors.{sectorNumber}
-use Rattle.flash_flags.specs.declared.Flag.{Flag}
 use Rattle.flash_flags.specs.declared.Flag.the-variants.{Untouched, Saved, Moved, Exchanged}
 use Rattle.flash_flags.specs.declared.FlagRead.{FlagRead}
 use Rattle.flash_flags.specs.declared.FlagRead.the-variants.{Known, Unknown}
@@ -36,7 +35,7 @@ flags-same g u u′ h = ap flagsShown (flags-from-same g u u′ (firmware g) 0 (
 
 -- ---- F only
 
-allF-from : (g : Geometry) (u : List ℕ) (k i : ℕ) → ((j : ℕ) → i ≤ j → j < i + k → flagAt g u j ≡ Known Untouched) → allF (flagsFrom g u k i) ≡ true
+pub allF-from : (g : Geometry) (u : List ℕ) (k i : ℕ) → ((j : ℕ) → i ≤ j → j < i + k → flagAt g u j ≡ Known Untouched) → allF (flagsFrom g u k i) ≡ true
 unfolding allF flagsFrom
 allF-from g u zero i h = refl
 allF-from g u (suc k) i h = rw (h i (omega arith) (omega arith)) (allF-from g u k (suc i) (λ j a b. h j (omega arith) (omega arith)))
@@ -48,7 +47,7 @@ is-untouched (Known Moved) e = absurd (let z : _≡_ {A = ℕ} 0 1 = cc in omega
 is-untouched (Known Exchanged) e = absurd (let z : _≡_ {A = ℕ} 0 1 = cc in omega arith)
 is-untouched Unknown e = absurd (let z : _≡_ {A = ℕ} 0 1 = cc in omega arith)
 
-each-from : (g : Geometry) (u : List ℕ) (k i : ℕ) → allF (flagsFrom g u k i) ≡ true → (j : ℕ) → i ≤ j → j < i + k → flagAt g u j ≡ Known Untouched
+pub each-from : (g : Geometry) (u : List ℕ) (k i : ℕ) → allF (flagsFrom g u k i) ≡ true → (j : ℕ) → i ≤ j → j < i + k → flagAt g u j ≡ Known Untouched
 unfolding allF flagsFrom
 each-from g u zero i e j a b = absurd (omega arith)
 each-from g u (suc k) i e j a b = by (ℕ-discrete i j) (λ e′ a′ b′. each-from g u k (suc i) e′ j a′ b′)

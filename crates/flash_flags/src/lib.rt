@@ -3,11 +3,12 @@ use flash::ByteOffset;
 use flash::Geometry;
 use flash::SectorNumber;
 ghost use mathlib.Core.Path.{_≡_};
-ghost use Prim.Native.Nat.{_+_, _-_, _<_};
+ghost use Prim.Native.Nat.{_-_, _≤_, _<_};
 ghost use Rattle.flash.specs.Sizes.{firmware, Limits};
-ghost use Rattle.flash.specs.Sectors.{Partition};
+ghost use Rattle.flash.specs.Sectors.{Partition, sectorNumber};
 ghost use Rattle.flash_flags.specs.SectorFlags.{flagValue, legFlag, flagOf, flagByte, half, withHalf, flagAt, setFlag};
-ghost use Rattle.flash_flags.specs.SectorFlags.{flagsFrom, flags, isF, allF, frontAt, pastZeros, flagsAt};
+ghost use Rattle.flash_flags.specs.SectorFlags.{flagsFrom, isF, allF, flagsAt};
+ghost use Rattle.flash_flags.specs.Front.{is0, front, byFront};
 
 // A firmware sector's flag, document 01's F, 7, 3 and 0: nothing is done; UPDATE's sector is saved in SWAP; BOOT's is moved to UPDATE;
 // the two are exchanged.
@@ -68,6 +69,20 @@ impl FlagRead {
                 Flag::Saved => false,
                 Flag::Moved => false,
                 Flag::Exchanged => false,
+            },
+        }
+    }
+
+    fn is_exchanged(self) -> bool
+        ensures { λ r. ⌜ r ≡ is0 self ⌝ }
+    {
+        match self {
+            FlagRead::Unknown => false,
+            FlagRead::Known(flag) => match flag {
+                Flag::Untouched => false,
+                Flag::Saved => false,
+                Flag::Moved => false,
+                Flag::Exchanged => true,
             },
         }
     }
@@ -165,47 +180,48 @@ fn untouched_from(g: Geometry, update: &[u8], start: SectorNumber) -> bool
     true
 }
 
-// Sector i shows `leg` and has 0 before it.
-fn front_at(g: Geometry, update: &[u8], i: SectorNumber, leg: Leg) -> Flags
-    requires { ⌜ (Partition g (now update)) × (i .0 < firmware g) ⌝ }
-    ensures { λ r. ⌜ r ≡ frontAt (i .0) leg (allF (flagsFrom g (now (update .entry)) (firmware g - (i .0 + 1)) (i .0 + 1))) ⌝ }
-{
-    if untouched_from(g, update, SectorNumber(i.0 + 1)) {
-        Flags::At(i, leg)
-    } else {
-        Flags::Malformed
-    }
-}
-
-// What flags show that are not all F.
-fn past_zeros(g: Geometry, update: &[u8]) -> Flags
+// The front of document 02: the first firmware sector whose flag is not 0, or m where all are 0, found by a scan from sector 0 up.
+pub fn find_front(g: Geometry, update: &[u8]) -> SectorNumber
     requires { ⌜ Partition g (now update) ⌝ }
-    ensures { λ r. ⌜ r ≡ pastZeros 0 (flags g (now (update .entry))) ⌝ }
+    ensures { λ r. ⌜ r ≡ sectorNumber (front g (now (update .entry))) ⌝ }
 {
     let m = g.firmware_sectors();
     let mut i = 0;
     while i < m {
-        match read_flag(g, update, SectorNumber(i)) {
-            FlagRead::Unknown => {
-                return Flags::Malformed;
-            }
-            FlagRead::Known(flag) => match flag {
-                Flag::Exchanged => {
-                    i += 1;
-                }
-                Flag::Untouched => {
-                    return front_at(g, update, SectorNumber(i), Leg::UpdateToSwap);
-                }
-                Flag::Saved => {
-                    return front_at(g, update, SectorNumber(i), Leg::BootToUpdate);
-                }
-                Flag::Moved => {
-                    return front_at(g, update, SectorNumber(i), Leg::SwapToBoot);
-                }
-            },
+        let flag = read_flag(g, update, SectorNumber(i));
+        if flag.is_exchanged() {
+            i += 1;
+        } else {
+            return SectorNumber(i);
         }
     }
-    Flags::All0
+    SectorNumber(i)
+}
+
+// What the flags show if `front` is the front and those after it are F only. No flag but the front's own is read.
+pub fn flags_by_front(g: Geometry, update: &[u8], front: SectorNumber) -> Flags
+    requires { ⌜ (Partition g (now update)) × (front .0 ≤ firmware g) ⌝ }
+    ensures { λ r. ⌜ r ≡ byFront (firmware g) (front .0) (flagAt g (now (update .entry)) (front .0)) ⌝ }
+{
+    if front.0 == g.firmware_sectors() {
+        return Flags::All0;
+    }
+    match read_flag(g, update, front) {
+        FlagRead::Unknown => Flags::Malformed,
+        FlagRead::Known(flag) => match flag {
+            Flag::Untouched => {
+                if front.0 == 0 {
+                    Flags::AllF
+                } else {
+                    Flags::At(front, Leg::UpdateToSwap)
+                }
+            }
+            Flag::Saved => Flags::At(front, Leg::BootToUpdate),
+            Flag::Moved => Flags::At(front, Leg::SwapToBoot),
+            // No front has flag 0.
+            Flag::Exchanged => Flags::Malformed,
+        },
+    }
 }
 
 // What the flags of the firmware sectors show.
@@ -213,9 +229,10 @@ pub fn read_flags(g: Geometry, update: &[u8]) -> Flags
     requires { ⌜ Partition g (now update) ⌝ }
     ensures { λ r. ⌜ r ≡ flagsAt g (now (update .entry)) ⌝ }
 {
-    if untouched_from(g, update, SectorNumber(0)) {
-        Flags::AllF
+    let front = find_front(g, update);
+    if untouched_from(g, update, SectorNumber(front.0 + 1)) {
+        flags_by_front(g, update, front)
     } else {
-        past_zeros(g, update)
+        Flags::Malformed
     }
 }
