@@ -36,7 +36,7 @@ pub record Crossed (g : Geometry) (old f : Flash) : Type 0 where
 abbrev pub Ready : Geometry → Leg → ℕ → Flash → Type 0
 Ready g leg i f = get g (target leg) i f ≡ get g (source leg) i f
 
-next-moved : (leg : Leg) → nextFlag leg ≡ moved (suc (legMoves leg))
+pub next-moved : (leg : Leg) → nextFlag leg ≡ moved (suc (legMoves leg))
 next-moved UpdateToSwap = refl
 next-moved BootToUpdate = refl
 next-moved SwapToBoot = refl

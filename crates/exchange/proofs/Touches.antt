@@ -46,7 +46,7 @@ module _ (g : Geometry) (f : Flash) (s : Shaped g f) (i : ℕ) (hi : i ≤ firmw
   writes d = record { shaped = put-shaped g (s .limits) d i x f hi X s; there = there d; others = others d }
 
 -- a sector has S bytes
-sized : (g : Geometry) (f : Flash) → Shaped g f → (a : Area) (i : ℕ) → i < firmware g → length (get g a i f) ≡ g .size
+pub sized : (g : Geometry) (f : Flash) → Shaped g f → (a : Area) (i : ℕ) → i < firmware g → length (get g a i f) ≡ g .size
 sized g f s Boot i hi =
     length-part (i * g .size) (g .size) (f .boot) (omega (arith, length-erased (g .size), sector-in g (s .limits) i (erased (g .size)) (f .boot) (omega arith) (s .boot) (length-erased (g .size))))
 sized g f s Update i hi =

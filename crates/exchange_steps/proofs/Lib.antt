@@ -1,5 +1,5 @@
 -- The laws that the proofs of this crate cite.
--- The next operation by what the code reads; its sector; the loop of steps
-mod Orders
+-- The sector of the next operation; a step, with what it carries on; the loop of steps
 mod Bounds
+mod Steps
 mod Runs

@@ -1,13 +1,13 @@
 -- What the functions of this crate require and answer.
-use Prim.Native.Nat.{_<_}
+use Prim.Native.Nat.{ℕ, _-_, _<_}
 use Rattle.flash.specs.declared.Geometry.{Geometry}
 use Rattle.flash.specs.Sizes.{firmware}
 use Rattle.flash.specs.Buffers.{Flash}
-use Rattle.exchange.specs.declared.Next.{Next}
 use Rattle.exchange.specs.declared.Operation.{Operation}
 use Rattle.exchange.specs.declared.Operation.the-variants.{Erase, Copy, WriteFlag, EraseBootTrailer, EraseUpdateTrailer, WriteBootStatus, WriteUpdateStatus}
 use Rattle.exchange.specs.Order as order
-use Rattle.exchange_steps.specs.declared.Ran.{Ran}
+use Rattle.exchange_front.specs.declared.Progress.{Progress}
+use Rattle.exchange_steps.specs.declared.StepAnswer.{StepAnswer}
 
 -- the operation's sector, if it has one, is a firmware sector
 abbrev pub SectorWithin : Geometry → Operation → Type 0
@@ -19,9 +19,10 @@ SectorWithin g EraseUpdateTrailer = Unit {0}
 SectorWithin g (WriteBootStatus v) = Unit {0}
 SectorWithin g (WriteUpdateStatus v) = Unit {0}
 
--- a step and a run of steps, with the flash that they leave
-abbrev pub stepped : Next → Flash → order.Step
-stepped n f = record { next = n; flash = f }
+-- a step, with the flash that it leaves
+abbrev pub stepped : StepAnswer → Flash → order.Step
+stepped r f = record { next = r .next; flash = f }
 
-abbrev pub ran : Ran → Flash → order.Run
-ran r f = record { count = r .count; phase = r .phase; flash = f }
+-- a run of steps from a budget, by what is carried at its end, with the flash that it leaves: the count is what the budget has lost
+abbrev pub ran : ℕ → Progress → Flash → order.Run
+ran budget at f = record { count = budget - at .left; phase = at .phase; flash = f }

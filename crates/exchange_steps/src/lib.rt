@@ -1,18 +1,20 @@
-// The single step: the operation that document 01 orders next, found by reading the bytes, and done.
+// The single step: the operation that document 01 orders next, found from the front that is carried along, and done.
 use exchange::Area;
 use exchange::Job;
 use exchange::Next;
 use exchange::Operation;
+use exchange_front::Progress;
 use flash::Geometry;
 use flash::SectorNumber;
 use flash_flags::Leg;
-use flash_status::Statuses;
 ghost use mathlib.Core.Path.{_≡_};
-ghost use Prim.Native.Nat.{_<_};
-ghost use Rattle.flash.specs.Sectors.{Partition, erased};
+ghost use Prim.Native.Nat.{_<_, _≤_};
+ghost use Rattle.flash.specs.Sectors.{erased};
 ghost use Rattle.flash.specs.Buffers.{lent, Shaped};
+ghost use Rattle.flash_flags.specs.Front.{WellFormed};
 ghost use Rattle.exchange.specs.Operations.{put, perform};
-ghost use Rattle.exchange.specs.Order.{nextBy, step, run};
+ghost use Rattle.exchange.specs.Order.{step, run};
+ghost use Rattle.exchange_front.specs.Carried.{progressScanned, Current};
 ghost use Rattle.exchange_steps.specs.Inner.{SectorWithin, stepped, ran};
 
 // Erases sector i of an area. SWAP is one sector, whatever i.
@@ -75,46 +77,37 @@ pub fn do_operation(g: Geometry, op: Operation, boot: &mut [u8], update: &mut [u
     }
 }
 
-// The operation that is next, by the bytes and the phase within a leg.
-pub fn find_next(g: Geometry, job: Job, phase: u8, boot: &[u8], update: &[u8]) -> Next
-    requires { ⌜ (Partition g (now boot)) × (Partition g (now update)) ⌝ }
-    ensures { λ r. ⌜ r ≡ nextBy job g phase (now (boot .entry)) (now (update .entry)) ⌝ }
-{
-    match flash_status::read_statuses(g, boot, update) {
-        Statuses::Allowed(b, u) => {
-            exchange_order::next_operation(job, phase, b, u, flash_flags::read_flags(g, update))
-        }
-        Statuses::NotAllowed => Next::Nothing,
-    }
+// The operation that a step did, if one was next, and what it carries on.
+pub struct StepAnswer {
+    pub next: Next,
+    pub progress: Progress,
 }
 
 // The single operation that is next, done. Power-up changes the flash by this function alone.
 pub fn do_next(
     g: Geometry,
     job: Job,
-    phase: u8,
+    at: Progress,
     boot: &mut [u8],
     update: &mut [u8],
     swap: &mut [u8],
-) -> Next
-    requires { ⌜ Shaped g (lent boot update swap) ⌝ }
-    ensures { λ r. ⌜ stepped r (lent (boot .exit) (update .exit) (swap .exit))
-        ≡ step job g phase (lent (boot .entry) (update .entry) (swap .entry)) ⌝ }
+) -> StepAnswer
+    requires { ⌜ (Shaped g (lent boot update swap)) × (Current g (now update) at) × (0 < at .left) ⌝ }
+    ensures { λ r. ⌜ (stepped r (lent (boot .exit) (update .exit) (swap .exit))
+        ≡ step job g (at .phase) (lent (boot .entry) (update .entry) (swap .entry)))
+        × (r .progress ≡ progressScanned g (now (update .exit)) (r .next) at) ⌝ }
 {
-    let next = find_next(g, job, phase, boot, update);
+    let next = exchange_front::find_next(g, job, at, boot, update);
     match next {
         Next::Do(op) => {
             do_operation(g, op, boot, update, swap);
-            next
+            StepAnswer {
+                next,
+                progress: exchange_front::carry_on(at, op),
+            }
         }
-        Next::Nothing => next,
+        Next::Nothing => StepAnswer { next, progress: at },
     }
-}
-
-// Where a run of steps stands.
-pub struct Ran {
-    pub phase: u8,
-    pub count: u64,
 }
 
 // Steps, until nothing is next or the budget is used up.
@@ -125,23 +118,24 @@ pub fn repeat_step(
     update: &mut [u8],
     swap: &mut [u8],
     budget: u64,
-) -> Ran
-    requires { ⌜ Shaped g (lent boot update swap) ⌝ }
-    ensures { λ r. ⌜ ran r (lent (boot .exit) (update .exit) (swap .exit))
-        ≡ run job g budget 0 (lent (boot .entry) (update .entry) (swap .entry)) ⌝ }
+) -> Progress
+    requires { ⌜ (Shaped g (lent boot update swap)) × (WellFormed g (now update)) ⌝ }
+    ensures { λ r. ⌜ (ran budget r (lent (boot .exit) (update .exit) (swap .exit))
+        ≡ run job g budget 0 (lent (boot .entry) (update .entry) (swap .entry)))
+        × (Current g (now (update .exit)) r) × (r .left ≤ budget) ⌝ }
 {
-    let mut phase: u8 = 0;
-    let mut count: u64 = 0;
-    while count < budget {
-        match do_next(g, job, phase, boot, update, swap) {
-            Next::Do(op) => {
-                phase = exchange_order::phase_after(op);
-                count += 1;
+    let mut at = exchange_front::begin(g, update, budget);
+    while 0 < at.left {
+        let step = do_next(g, job, at, boot, update, swap);
+        let next = step.next;
+        match next {
+            Next::Do(_) => {
+                at = step.progress;
             }
             Next::Nothing => {
-                return Ran { phase, count };
+                return at;
             }
         }
     }
-    Ran { phase, count }
+    at
 }

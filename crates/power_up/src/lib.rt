@@ -1,6 +1,7 @@
 // Power-up on three lent buffers: BOOT, UPDATE and SWAP.
 use exchange::Job;
 use exchange::Next;
+use exchange_front::Progress;
 use flash::Geometry;
 use flash::GeometryAnswer;
 use image::ImageVerdict;
@@ -10,8 +11,11 @@ use power_up_decision::Plan;
 ghost use mathlib.Core.Path.{_≡_};
 ghost use Rattle.flash.specs.Sectors.{Partition};
 ghost use Rattle.flash.specs.Buffers.{lent, Shaped};
+ghost use Rattle.flash_flags.specs.Front.{WellFormed};
 ghost use Rattle.exchange.specs.Order.{nextBy, run};
+ghost use Rattle.exchange.specs.Decision.{decideWithin};
 ghost use Rattle.exchange.specs.PowerUp.{ifBootGood, doneOutcome, outcomeBy, worked, carryOut};
+ghost use Rattle.exchange_front.specs.Carried.{Current};
 ghost use Rattle.image.specs.Verdict.{checkOf};
 ghost use Rattle.numbers.specs.GivenBack.{reasonOf};
 ghost use Rattle.power_up_decision.specs.Inner.{planOf};
@@ -67,13 +71,13 @@ fn done_outcome(job: Job) -> Outcome
     }
 }
 
-// The outcome of a job whose steps have come to a phase: "cut" where one more is ordered.
-fn outcome_at(g: Geometry, job: Job, phase: u8, boot: &[u8], update: &[u8]) -> Outcome
-    requires { ⌜ (Partition g (now boot)) × (Partition g (now update)) ⌝ }
+// The outcome of a job whose steps have come this far: "cut" where one more is ordered.
+fn outcome_at(g: Geometry, job: Job, at: Progress, boot: &[u8], update: &[u8]) -> Outcome
+    requires { ⌜ (Partition g (now boot)) × (Partition g (now update)) × (Current g (now update) at) ⌝ }
     ensures { λ r. ⌜ outcomeOf r
-        ≡ outcomeBy (nextBy job g phase (now (boot .entry)) (now (update .entry))) job (checkOf g (now (boot .entry))) ⌝ }
+        ≡ outcomeBy (nextBy job g (at .phase) (now (boot .entry)) (now (update .entry))) job (checkOf g (now (boot .entry))) ⌝ }
 {
-    match exchange_steps::find_next(g, job, phase, boot, update) {
+    match exchange_front::find_next(g, job, at, boot, update) {
         Next::Do(_) => Outcome::Cut,
         Next::Nothing => if_boot_good(g, done_outcome(job), boot),
     }
@@ -88,18 +92,20 @@ fn do_job(
     swap: &mut [u8],
     budget: u64,
 ) -> PowerUpAnswer
-    requires { ⌜ Shaped g (lent boot update swap) ⌝ }
+    requires { ⌜ (Shaped g (lent boot update swap)) × (WellFormed g (now update)) ⌝ }
     ensures { λ r. ⌜ answered r (lent (boot .exit) (update .exit) (swap .exit))
         ≡ worked checkOf g job (reasonOf reason) (run job g budget 0 (lent (boot .entry) (update .entry) (swap .entry))) ⌝ }
 {
-    let ran = exchange_steps::repeat_step(g, job, boot, update, swap, budget);
+    let end = exchange_steps::repeat_step(g, job, boot, update, swap, budget);
+    let left = end.left;
     PowerUpAnswer {
-        outcome: outcome_at(g, job, ran.phase, boot, update),
+        outcome: outcome_at(g, job, end, boot, update),
         reason,
-        count: ran.count,
+        count: budget - left,
     }
 }
 
+// What was decided, done.
 fn carry_out(
     g: Geometry,
     plan: Plan,
@@ -108,7 +114,7 @@ fn carry_out(
     swap: &mut [u8],
     budget: u64,
 ) -> PowerUpAnswer
-    requires { ⌜ Shaped g (lent boot update swap) ⌝ }
+    requires { ⌜ (Shaped g (lent boot update swap)) × (planOf plan ≡ decideWithin checkOf g (now boot) (now update)) ⌝ }
     ensures { λ r. ⌜ answered r (lent (boot .exit) (update .exit) (swap .exit))
         ≡ carryOut checkOf g (lent (boot .entry) (update .entry) (swap .entry)) budget (planOf plan) ⌝ }
 {

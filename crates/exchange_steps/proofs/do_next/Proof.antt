@@ -1,47 +1,63 @@
-use mathlib.Core.Path.{sym, ap, _∙_}
-use Rattle.exchange.specs.declared.Next.{Next}
+use mathlib.Core.Path.{sym, _∙_}
 use Rattle.flash.specs.Buffers.{flash}
-use Rattle.exchange.specs.Order.{step, nextOperation}
-use Rattle.exchange_steps.specs.Inner.{stepped}
-use Rattle.exchange_steps.proofs.Bounds.{next-within}
+use Rattle.flash.proofs.Checked.{boot-partition, update-partition}
+use Rattle.exchange_front.proofs.Ordered.{next-ordered}
+use Rattle.exchange_front.proofs.Follows.{current-within, current-small}
+use Rattle.exchange_steps.proofs.Bounds.{ordered-within}
+use Rattle.exchange_steps.proofs.Steps.{found, step-done, step-none}
 use borrow.Author.Needs.{needs}
 use Rattle.exchange_steps.proofs.do_next.Statement.{statement}
 use Rattle.exchange_steps.proofs.do_next.Tie as tie
+
+find-next-requires : tie.Need-find-next-requires
+find-next-requires c κs =
+    let d = c .before .before .before .before .before in
+    let a = d .args in
+    (boot-partition _ _ (d .pre .0), update-partition _ _ (d .pre .0), current-within (a .g) (a .update .now) (a .at) (d .pre .1))
 
 do-operation-requires : tie.Need-do-operation-requires
 do-operation-requires c κs =
     let c4 = c .before .before .before .before in
     let c6 = c4 .before .before in
-    let c12 = c6 .before .before .before .before .before .before in
-    let a = c12 .args in
-    let e = sym (c6 .find-next .ensures) ∙ c4 .next .given .1 in
-    (c12 .pre, rw e at (next-within (a .g) (c12 .pre .limits) (a .job) (a .phase) (a .boot .now) (a .update .now)))
+    let d = c6 .before .before .before .before .before .before in
+    let a = d .args in
+    let f = flash (a .boot .now) (a .update .now) (a .swap .now) in
+    let o = c4 .next .given .0 .0 in
+    let e = sym (found (a .job) (a .g) (a .at) f (d .pre .0) (d .pre .1) _ (c6 .find-next .ensures)) ∙ c4 .next .given .1 in
+    (d .pre .0, ordered-within (a .g) (a .update .now) o (next-ordered (a .g) (d .pre .0 .limits) (a .job) (a .at .phase) f o e))
+
+carry-on-requires : tie.Need-carry-on-requires
+carry-on-requires c κs =
+    let d = c .before .before .before .before .before .before .before .before .before .before .before .before .before .before .before .before .before .before .before in
+    let a = d .args in
+    (current-small (a .g) (a .update .now) (a .at) (d .pre .0 .limits) (d .pre .1), d .pre .2)
 
 returns : tie.Need-returns
-unfolding step nextOperation
 returns c =
-    let c6 = c .before .before .before .before .before .before in
-    let c11 = c6 .before .before .before .before .before in
-    let c13 = c11 .before .before in
-    let e = sym (c13 .find-next .ensures) ∙ c11 .next .given .1 in
-    rw e (ap (stepped _) (c6 .do-operation .ensures))
+    let c7 = c .before .before .before .before .before .before .before in
+    let c12 = c7 .before .before .before .before .before in
+    let c14 = c12 .before .before in
+    let d = c14 .before .before .before .before .before .before in
+    let a = d .args in
+    let f = flash (a .boot .now) (a .update .now) (a .swap .now) in
+    step-done (a .job) (a .g) (a .at) f (d .pre .0) (d .pre .1) _ _ (c14 .find-next .ensures) (c12 .next .given .1) _ (c7 .do-operation .ensures) _ (c .carry-on .ensures)
 
 returns-2 : tie.Need-returns-2
-unfolding step nextOperation
 returns-2 c =
     let c2 = c .before .before in
-    let c8 = c2 .before .before .before .before .before .before in
-    let e = sym (c2 .find-next .ensures) ∙ c .enum-told .given .1 in
-    let a = c8 .args in
-    rw e (ap (λ (n : Next). stepped n (flash (a .boot .now) (a .update .now) (a .swap .now))) (c .enum-told .given .1))
+    let d = c2 .before .before .before .before .before .before in
+    let a = d .args in
+    let f = flash (a .boot .now) (a .update .now) (a .swap .now) in
+    step-none (a .job) (a .g) (a .at) f (d .pre .0) (d .pre .1) _ (c2 .find-next .ensures) (c .enum-told .given .1)
 
 pub do-next-spec : {M : Type 1} → statement M
 do-next-spec =
     tie.close
     (tie.spec
-    (λ c κs. search needs)
+    find-next-requires
     (λ c. search needs)
     do-operation-requires
+    carry-on-requires
     (λ c. search needs)
     (λ c. search needs)
     (λ c. search needs)

@@ -1,11 +1,20 @@
 use mathlib.Core.Path.{ap, _∙_}
 use Rattle.flash.specs.Buffers.{flash}
 use Rattle.exchange.specs.PowerUp.{Outcome, idle}
+use Rattle.image.specs.Verdict.{checkOf}
 use Rattle.power_up.specs.declared.PowerUpAnswer.{PowerUpAnswer}
 use Rattle.power_up.specs.Delivered.{answered}
+use Rattle.power_up.proofs.Calls.{work-formed}
 use borrow.Author.Needs.{needs}
 use Rattle.power_up.proofs.carry_out.Statement.{statement}
 use Rattle.power_up.proofs.carry_out.Tie as tie
+
+do-job-requires : tie.Need-do-job-requires
+do-job-requires c κs =
+    let c4 = c .before .before .before .before in
+    let c9 = c4 .before .before .before .before .before in
+    let a = c9 .args in
+    (c9 .pre .0, work-formed checkOf (a .g) (a .boot .now) (a .update .now) (a .plan) _ _ (c4 .plan2 .given .1) (c9 .pre .1))
 
 returns : tie.Need-returns
 returns c =
@@ -39,7 +48,7 @@ carry-out-spec =
     (λ c κs. search needs)
     (λ c κs. search needs)
     (λ c. search needs)
-    (λ c κs. search needs)
+    do-job-requires
     returns
     (λ c. search needs)
     returns-2

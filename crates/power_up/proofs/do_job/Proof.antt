@@ -12,9 +12,16 @@ returns c =
     let c9 = c .before .before .before .before .before .before .before .before .before in
     let a = c9 .before .before .before .before .before .before .before .args in
     let x = c .outcome-at in
-    job-answered checkOf (a .g) (a .job) (a .reason) (x .result) _ _ _ (c9 .repeat-step .ensures) (x .ensures) refl
+    job-answered checkOf (a .g) (a .job) (a .reason) (x .result) _ _ _ (c9 .repeat-step .ensures .0) (x .ensures) refl
 
 pub do-job-spec : {M : Type 1} → statement M
 do-job-spec =
     tie.close
-    (tie.spec (λ c κs. search needs) (λ c κs. search needs) (λ c. search needs) (λ c. search needs) (λ c. search needs) returns)
+    (tie.spec
+    (λ c κs. search needs)
+    (λ c κs. search needs)
+    (λ c. search needs)
+    (λ c. search needs)
+    (λ c. search needs)
+    (λ c. search needs)
+    returns)

@@ -19,7 +19,7 @@ carry-out-requires : tie.Need-carry-out-requires
 carry-out-requires c κs =
     let c7 = c .before .before .before .before .before .before .before in
     let c9 = c7 .before .before in
-    flash-given _ _ _ _ (rw (c7 .g .given .1) at (c9 .check-flash .ensures))
+    (flash-given _ _ _ _ (rw (c7 .g .given .1) at (c9 .check-flash .ensures)), c .before .before .before .decide .ensures)
 
 returns : tie.Need-returns
 returns c =
