@@ -89,7 +89,11 @@ void fill(uint8_t *p, size_t length, uint32_t seed)
 
 void make_image(uint8_t *partition, size_t length, size_t sector_size, uint32_t version)
 {
-    const size_t firmware = length - sector_size - TAINHOSA_HEADER_LENGTH;
+    make_image_of(partition, length, sector_size, length - sector_size - TAINHOSA_HEADER_LENGTH, version);
+}
+
+void make_image_of(uint8_t *partition, size_t length, size_t sector_size, size_t firmware, uint32_t version)
+{
     uint8_t bytes[TAINHOSA_HEADER_BYTES];
     uint64_t place;
     fill(bytes, sizeof bytes, version);

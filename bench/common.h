@@ -31,6 +31,9 @@ void fill(uint8_t *p, size_t length, uint32_t seed);
 /* An image whose firmware fills the sectors but the last of a partition; the trailer sector is erased. */
 void make_image(uint8_t *partition, size_t length, size_t sector_size, uint32_t version);
 
+/* The same with so many bytes of firmware; FF after it. */
+void make_image_of(uint8_t *partition, size_t length, size_t sector_size, size_t firmware, uint32_t version);
+
 /* Puts the digest of an image into its header, which has `room` bytes with the firmware; or exit. */
 void sign_image(uint8_t *image, size_t room);
 

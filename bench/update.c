@@ -1,7 +1,8 @@
 /*
  * One update, armed before: tainhosa_power_up beside plain C that does the same checks, erases, copies and writes, in the same
- * buffers. The firmware fills its sectors. Fails if the two leave another flash. With two words, the sectors of a partition and
- * the bytes of a sector, it is done once and by the library alone, for a program that counts its instructions.
+ * buffers, and scans nothing. The firmware fills its sectors; once more with one byte of firmware, so that the exchange is nearly all that
+ * is left. Fails if the two leave another flash. With two words, the sectors of a partition and the bytes of a sector, it is done once and
+ * by the library alone, for a program that counts its instructions.
  */
 #include <stdio.h>
 #include <stdlib.h>
@@ -102,18 +103,19 @@ static void compare(void)
     free(done);
 }
 
-/* Two images, the second one newer and armed. */
-static void prepare(size_t n, size_t s)
+/* Two images, the second one newer and armed. They fill their sectors, or have one byte of firmware. */
+static void prepare(size_t n, size_t s, bool filled)
 {
     uint64_t count;
+    const size_t firmware = filled ? (n - 1) * s - TAINHOSA_HEADER_LENGTH : 1;
     sectors = n;
     size = s;
     length = n * s;
     boot = room_for(length);
     update = room_for(length);
     swap = room_for(size);
-    make_image(boot, length, size, 1);
-    make_image(update, length, size, 2);
+    make_image_of(boot, length, size, firmware, 1);
+    make_image_of(update, length, size, firmware, 2);
     memset(swap, 0xFF, size);
     boot[length - 1] = TAINHOSA_STATUS_SUCCESS;
     if (tainhosa_arm(n, s, boot, length, update, length, swap, size, &count, 1) != TAINHOSA_OK) {
@@ -121,12 +123,12 @@ static void prepare(size_t n, size_t s)
     }
 }
 
-static void measure(size_t n, size_t s, bool each)
+static void measure(size_t n, size_t s, bool each, bool filled)
 {
     action *const sides[] = {run_ours, run_plain};
     double best[2];
     char what[80];
-    prepare(n, s);
+    prepare(n, s, filled);
     first_boot = room_for(length);
     first_update = room_for(length);
     first_swap = room_for(size);
@@ -135,7 +137,7 @@ static void measure(size_t n, size_t s, bool each)
     memcpy(first_swap, swap, size);
     compare();
     best_seconds(sides, 2, restore, best);
-    snprintf(what, sizeof what, "update, %zu sectors of %zu KiB; plain C", n, s / 1024);
+    snprintf(what, sizeof what, filled ? "update, %zu sectors of %zu KiB; plain C" : "%zu of %zu KiB, 1 B of firmware; plain C", n, s / 1024);
     print_row(what, "ms", 3, best[0] * 1e3, best[1] * 1e3);
     if (each) {
         snprintf(what, sizeof what, "update, for each of %zu firmware sectors", n - 1);
@@ -152,13 +154,14 @@ static void measure(size_t n, size_t s, bool each)
 int main(int words, char **word)
 {
     if (words == 3) {
-        prepare(strtoul(word[1], NULL, 10), strtoul(word[2], NULL, 10));
+        prepare(strtoul(word[1], NULL, 10), strtoul(word[2], NULL, 10), true);
         run_ours();
         return 0;
     }
-    measure(64, 131072, false);
+    measure(64, 131072, false, true);
     for (size_t n = 2; n <= TAINHOSA_SECTORS_MAX; n *= 2) {
-        measure(n, 4096, true);
+        measure(n, 4096, true, true);
     }
+    measure(TAINHOSA_SECTORS_MAX, 4096, false, false);
     return 0;
 }

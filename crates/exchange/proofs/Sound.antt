@@ -36,6 +36,14 @@ pub record Crossed (g : Geometry) (old f : Flash) : Type 0 where
 abbrev pub Ready : Geometry → Leg → ℕ → Flash → Type 0
 Ready g leg i f = get g (target leg) i f ≡ get g (source leg) i f
 
+-- a sector has S bytes
+pub sized : (g : Geometry) (f : Flash) → Shaped g f → (a : Area) (i : ℕ) → i < firmware g → length (get g a i f) ≡ g .size
+sized g f s Boot i hi =
+    length-part (i * g .size) (g .size) (f .boot) (omega (arith, length-erased (g .size), sector-in g (s .limits) i (erased (g .size)) (f .boot) (omega arith) (s .boot) (length-erased (g .size))))
+sized g f s Update i hi =
+    length-part (i * g .size) (g .size) (f .update) (omega (arith, length-erased (g .size), sector-in g (s .limits) i (erased (g .size)) (f .update) (omega arith) (s .update) (length-erased (g .size))))
+sized g f s Swap i hi = s .swap
+
 pub next-moved : (leg : Leg) → nextFlag leg ≡ moved (suc (legMoves leg))
 next-moved UpdateToSwap = refl
 next-moved BootToUpdate = refl
@@ -161,15 +169,7 @@ module _ (g : Geometry) (G : Limits g) where
 
     -- a copy makes it ready
     pub length-source : length (get g (source leg) i f) ≡ g .size
-    length-source = by leg
-      where
-        fit : i * g .size + length (f .swap) ≤ length (f .boot)
-        fit = sector-in g G i (f .swap) (f .boot) (omega arith) (s .shaped .boot) (s .shaped .swap)
-
-        by : (leg : Leg) → length (get g (source leg) i f) ≡ g .size
-        by UpdateToSwap = length-part (i * g .size) (g .size) (f .update) (omega (arith, fit, s .shaped .boot, s .shaped .update, s .shaped .swap))
-        by BootToUpdate = length-part (i * g .size) (g .size) (f .boot) (omega (arith, fit, s .shaped .boot, s .shaped .swap))
-        by SwapToBoot = s .shaped .swap
+    length-source = sized g f (s .shaped) (source leg) i hi
 
     pub copied : Ready g leg i (put g (target leg) i (get g (source leg) i f) f)
     copied = by leg length-source

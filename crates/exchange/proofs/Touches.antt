@@ -16,10 +16,9 @@ use Rattle.exchange.specs.declared.Operation.the-variants.{Erase, Copy, 
 use Rattle.exchange.specs.Operations.{source, get, put, perform}
 use Rattle.exchange.specs.LostPower.{Torn, performTorn}
 use Rattle.exchange.specs.Touches.{Other, WritesSector, WritesLast, AllOrNothing, Touches}
-use Rattle.flash.proofs.Laws.{length-erased, sector-in, sector-same, sector-other}
-use Rattle.flash.proofs.Bytes.{length-part}
+use Rattle.flash.proofs.Laws.{length-erased, sector-same, sector-other}
 use Rattle.flash_flags.proofs.Laws.{length-flag, byte-flag, half-flag, flag-same, length-status, byte-status, status-same}
-use Rattle.exchange.proofs.Sound.{put-shaped}
+use Rattle.exchange.proofs.Sound.{put-shaped, sized}
 
 -- a sector written by `put`
 module _ (g : Geometry) (f : Flash) (s : Shaped g f) (i : ℕ) (hi : i ≤ firmware g) (x : List ℕ) (X : length x ≡ g .size) where
@@ -44,14 +43,6 @@ module _ (g : Geometry) (f : Flash) (s : Shaped g f) (i : ℕ) (hi : i ≤ firmw
 
   writes : (d : Area) → WritesSector g f d i x (put g d i x f)
   writes d = record { shaped = put-shaped g (s .limits) d i x f hi X s; there = there d; others = others d }
-
--- a sector has S bytes
-pub sized : (g : Geometry) (f : Flash) → Shaped g f → (a : Area) (i : ℕ) → i < firmware g → length (get g a i f) ≡ g .size
-sized g f s Boot i hi =
-    length-part (i * g .size) (g .size) (f .boot) (omega (arith, length-erased (g .size), sector-in g (s .limits) i (erased (g .size)) (f .boot) (omega arith) (s .boot) (length-erased (g .size))))
-sized g f s Update i hi =
-    length-part (i * g .size) (g .size) (f .update) (omega (arith, length-erased (g .size), sector-in g (s .limits) i (erased (g .size)) (f .update) (omega arith) (s .update) (length-erased (g .size))))
-sized g f s Swap i hi = s .swap
 
 -- the last byte of a partition
 last : (g : Geometry) (f : Flash) → Shaped g f → (l : List ℕ) → length l ≡ partitionSize g → (b : ℕ) → WritesLast g l b (setStatusByte g b l)

@@ -5,7 +5,7 @@ use Prim.Native.Nat.{ℕ, suc, _≤_, _<_}
 use native.Mathlib.Omega.{arith}
 use lib.ListN.{length}
 use Rattle.flash.specs.declared.Geometry.{Geometry}
-use Rattle.flash.specs.Sizes.{firmware, mostSectors, Limits}
+use Rattle.flash.specs.Sizes.{firmware}
 use Rattle.flash.specs.Sectors.{writeSector, erased}
 use Rattle.flash.specs.Buffers.{Flash, Shaped}
 use Rattle.flash.proofs.Checked.{update-partition}
@@ -17,7 +17,7 @@ use Rattle.flash_flags.specs.declared.Leg.the-variants.{UpdateToSwap, BootToUpd
 use Rattle.flash_flags.specs.SectorFlags.{moved, legMoves, flagAt, setFlag, flagsAt}
 use Rattle.flash_flags.specs.Front.{front, byFront, WellFormed}
 use Rattle.flash_flags.proofs.Laws.{flags-sector, flags-erased, flags-status}
-use Rattle.flash_flags.proofs.Front.{number, front-within, front-small, front-tells, writes-front, front-leg, sectorAfter, leg-over}
+use Rattle.flash_flags.proofs.Front.{sector-number, front-within, front-tells, writes-front, front-leg, followingSector, formed-on, front-on}
 use Rattle.exchange.specs.declared.Area.the-variants.{Boot, Update, Swap}
 use Rattle.exchange.specs.declared.Operation.{Operation}
 use Rattle.exchange.specs.declared.Operation.the-variants.{Erase, Copy, WriteFlag, EraseBootTrailer, EraseUpdateTrailer, WriteBootStatus, WriteUpdateStatus}
@@ -25,8 +25,7 @@ use Rattle.exchange.specs.declared.Next.{Next}
 use Rattle.exchange.specs.declared.Next.the-variants.{Do, Nothing}
 use Rattle.exchange.specs.Operations.{get, nextFlag, perform}
 use Rattle.exchange.specs.Order.{orderedBy, nextOperation, performNext, step}
-use Rattle.exchange.proofs.Touches.{sized}
-use Rattle.exchange.proofs.Sound.{next-moved}
+use Rattle.exchange.proofs.Sound.{sized, next-moved}
 use Rattle.exchange_front.specs.declared.Progress.{Progress}
 use Rattle.exchange_front.specs.Inner.{frontAfter}
 use Rattle.exchange_front.specs.Carried.{Current, SameNext, FrontFollows, StepsKeepForm}
@@ -38,7 +37,7 @@ record Follows (g : Geometry) (u u′ : List ℕ) (o : Operation) : Type 0 where
   scanned : front g u′ ≡ frontAfter o (front g u)
 
 -- a leg ends: its flag is written, and the front is the sector of the next leg
-after-leg : (leg : Leg) (i k : ℕ) (w : Flag) → w ≡ nextFlag leg → k ≡ i → (o : Operation) → o ≡ WriteFlag (record { 0 = i }) w → sectorAfter leg i ≡ frontAfter o k
+after-leg : (leg : Leg) (i k : ℕ) (w : Flag) → w ≡ nextFlag leg → k ≡ i → (o : Operation) → o ≡ WriteFlag (record { 0 = i }) w → followingSector leg i ≡ frontAfter o k
 after-leg UpdateToSwap i k w e q o n = rw (n, e) (sym q)
 after-leg BootToUpdate i k w e q o n = rw (n, e) (sym q)
 after-leg SwapToBoot i k w e q o n = rw (n, e) (omega arith)
@@ -59,11 +58,11 @@ module _ (g : Geometry) (f : Flash) (s : Shaped g f) (h : WellFormed g (f .updat
   follows (Copy BootToUpdate i) k = sector (i .0) (get g Boot (i .0) f) k (sized g f s Boot (i .0) k) (Copy BootToUpdate i) refl
   follows (Copy SwapToBoot i) k = record { formed = h; scanned = refl }
   follows (WriteFlag i v) k =
-      let d = leg-over g (s .limits) (f .update) (s .update) (i .0) (k .leg) (k .inside) (k .shows) in
+      let P = update-partition g f s in
       let e : moved (suc (legMoves (k .leg))) ≡ v = sym (next-moved (k .leg)) ∙ sym (k .next) in
       record {
-        formed = subst (λ (w : Flag). WellFormed g (setFlag g (i .0) w (f .update))) e (d .0);
-        scanned = ap (λ (w : Flag). front g (setFlag g (i .0) w (f .update))) (sym e) ∙ d .1
+        formed = subst (λ (w : Flag). WellFormed g (setFlag g (i .0) w (f .update))) e (formed-on g (f .update) P (i .0) (k .inside) (k .leg) (k .shows));
+        scanned = ap (λ (w : Flag). front g (setFlag g (i .0) w (f .update))) (sym e) ∙ front-on g (f .update) P (i .0) (k .inside) (k .leg) (k .shows)
             ∙ after-leg (k .leg) (i .0) (front g (f .update)) v (k .next) (front-leg g (f .update) (i .0) (k .leg) (k .shows)) (WriteFlag i v) refl;
       }
   follows EraseBootTrailer k = record { formed = h; scanned = refl }
@@ -91,14 +90,11 @@ steps-keep-form job g p f s h = by (nextOperation job g p f) refl
 -- ---- the next operation
 
 pub same-next : SameNext
-same-next job g at boot update P k =
-    let e : byFront (firmware g) (front g update) (flagAt g update (front g update)) ≡ flagsAt g update = sym (front-tells g update P .alone (k .formed)) in
+same-next job g at boot update G k =
+    let e : byFront (firmware g) (front g update) (flagAt g update (front g update)) ≡ flagsAt g update = sym (front-tells g update G .alone (k .formed)) in
     ap (orderedBy job (at .phase) (bootStatusAt g boot) (updateStatusAt g update))
-    (ap (λ (i : ℕ). byFront (firmware g) i (flagAt g update i)) (sym (number (k .scanned))) ∙ e)
+    (ap (λ (i : ℕ). byFront (firmware g) i (flagAt g update i)) (sym (sector-number (k .scanned))) ∙ e)
 
--- the front that is carried is a firmware sector or m, and small
+-- the front that is carried is a firmware sector or m
 pub current-within : (g : Geometry) (u : List ℕ) (at : Progress) → Current g u at → at .front .0 ≤ firmware g
-current-within g u at k = omega (arith, number (k .scanned), front-within g u)
-
-pub current-small : (g : Geometry) (u : List ℕ) (at : Progress) → Limits g → Current g u at → at .front .0 < mostSectors
-current-small g u at G k = omega (arith, number (k .scanned), front-small g u G)
+current-within g u at k = omega (arith, sector-number (k .scanned), front-within g u)

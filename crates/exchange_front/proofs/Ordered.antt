@@ -46,43 +46,64 @@ Ordered g u EraseUpdateTrailer = Unit {0}
 Ordered g u (WriteBootStatus v) = Unit {0}
 Ordered g u (WriteUpdateStatus v) = Unit {0}
 
-abbrev pub OrderedNext : Geometry → List ℕ → Next → Type 0
-OrderedNext g u Nothing = Unit {0}
-OrderedNext g u (Do o) = Ordered g u o
+-- ---- any claim on operations, over all that is ordered
 
-module _ (g : Geometry) (u : List ℕ) where
-  of-leg : (i : ℕ) (leg : Leg) (p : ℕ) → i < firmware g → flagsAt g u ≡ atLeg i leg → Ordered g u (legOperation leg p (sectorNumber i))
-  of-leg i leg zero h e = h
-  of-leg i leg (suc zero) h e = h
-  of-leg i leg (suc (suc p)) h e = record { leg = leg; inside = h; shows = e; next = refl }
+abbrev pub OfNext : (Operation → Type 0) → Next → Type 0
+OfNext P Nothing = Unit {0}
+OfNext P (Do o) = P o
 
-  of-exchange : Limits g → (p : ℕ) (w : Flags) (last : Operation) → flagsAt g u ≡ w → Ordered g u last → OrderedNext g u (exchangeNext p w last)
-  of-exchange G p AllF last e k = of-leg 0 UpdateToSwap p (some-firmware g G) e
-  of-exchange G p (At i leg) last e k =
-      let f = each-at g u i leg e in
-      of-leg (i .0) leg p (f .inside) (e ∙ at-leg (i .0) leg (f .notAllF))
-  of-exchange G p All0 last e k = k
-  of-exchange G p Malformed last e k = tt
+-- of the legs that flags show
+abbrev pub OfLegs : (Operation → Type 0) → Flags → Type 0
+OfLegs P AllF = (p : ℕ) → P (legOperation UpdateToSwap p (sectorNumber 0))
+OfLegs P (At i leg) = (p : ℕ) → P (legOperation leg p i)
+OfLegs P All0 = Unit {0}
+OfLegs P Malformed = Unit {0}
 
-  of-closing : (b : BootStatus) → Ordered g u (closing b)
-  of-closing Success = tt
-  of-closing BootNew = tt
-  of-closing Testing = tt
+module _ (P : Operation → Type 0) (boot : P EraseBootTrailer) (update : P EraseUpdateTrailer) (status : (v : BootStatus) → P (WriteBootStatus v)) where
+  of-exchange : (p : ℕ) (w : Flags) (last : Operation) → OfLegs P w → P last → OfNext P (exchangeNext p w last)
+  of-exchange p AllF last h k = h p
+  of-exchange p (At i leg) last h k = h p
+  of-exchange p All0 last h k = k
+  of-exchange p Malformed last h k = tt
 
-  of-job : Limits g → (job : Job) (p : ℕ) (b : BootStatus) (s : UpdateStatus) (w : Flags) → flagsAt g u ≡ w → OrderedNext g u (ordered job p b s w)
-  of-job G Update p b Updating w e = of-exchange G p w (closing b) e (of-closing b)
-  of-job G Update p b UpdateNew w e = tt
-  of-job G Fallback p Testing s w e = of-exchange G p w (WriteBootStatus Success) e tt
-  of-job G Fallback p BootNew s w e = tt
-  of-job G Fallback p Success s w e = tt
-  of-job G TurnDown p b Updating w e = tt
-  of-job G TurnDown p b UpdateNew w e = tt
+  of-closing : (b : BootStatus) → P (closing b)
+  of-closing Success = boot
+  of-closing BootNew = status Testing
+  of-closing Testing = update
 
-  by-statuses : Limits g → (job : Job) (p : ℕ) (b : Answer BootStatus) (s : Answer UpdateStatus) → OrderedNext g u (orderedBy job p b s (flagsAt g u))
-  by-statuses G job p (gives b) (gives s) = of-job G job p b s (flagsAt g u) refl
-  by-statuses G job p (gives b) (refused n q) = tt
-  by-statuses G job p (refused n q) s = tt
+  of-job : (job : Job) (p : ℕ) (b : BootStatus) (u : UpdateStatus) (w : Flags) → OfLegs P w → OfNext P (ordered job p b u w)
+  of-job Update p b Updating w h = of-exchange p w (closing b) h (of-closing b)
+  of-job Update p b UpdateNew w h = tt
+  of-job Fallback p Testing u w h = of-exchange p w (WriteBootStatus Success) h (status Success)
+  of-job Fallback p BootNew u w h = tt
+  of-job Fallback p Success u w h = tt
+  of-job TurnDown p b Updating w h = update
+  of-job TurnDown p b UpdateNew w h = tt
+
+  by-statuses : (job : Job) (p : ℕ) (b : Answer BootStatus) (u : Answer UpdateStatus) (w : Flags) → OfLegs P w → OfNext P (orderedBy job p b u w)
+  by-statuses job p (gives b) (gives u) w h = of-job job p b u w h
+  by-statuses job p (gives b) (refused n q) w h = tt
+  by-statuses job p (refused n q) u w h = tt
+
+  pub of-ordered : (job : Job) (p : ℕ) (b : Answer BootStatus) (u : Answer UpdateStatus) (w : Flags) (o : Operation) → OfLegs P w → orderedBy job p b u w ≡ Do o → P o
+  of-ordered job p b u w o h e = rw e at (by-statuses job p b u w h)
+
+-- ---- by what the flags are
+
+module _ (g : Geometry) (G : Limits g) (u : List ℕ) where
+  of-leg : (i : ℕ) (leg : Leg) → i < firmware g → flagsAt g u ≡ atLeg i leg → (p : ℕ) → Ordered g u (legOperation leg p (sectorNumber i))
+  of-leg i leg h e zero = h
+  of-leg i leg h e (suc zero) = h
+  of-leg i leg h e (suc (suc p)) = record { leg = leg; inside = h; shows = e; next = refl }
+
+  of-flags : (w : Flags) → flagsAt g u ≡ w → OfLegs (Ordered g u) w
+  of-flags AllF e = of-leg 0 UpdateToSwap (some-firmware g G) e
+  of-flags (At i leg) e = let f = each-at g u i leg e in of-leg (i .0) leg (f .inside) (e ∙ at-leg (i .0) leg (f .notAllF))
+  of-flags All0 e = tt
+  of-flags Malformed e = tt
 
 pub next-ordered : (g : Geometry) → Limits g → (job : Job) (p : ℕ) (f : Flash) (o : Operation) → nextOperation job g p f ≡ Do o → Ordered g (f .update) o
 unfolding nextOperation
-next-ordered g G job p f o e = rw e at (by-statuses g (f .update) G job p (bootStatusAt g (f .boot)) (updateStatusAt g (f .update)))
+next-ordered g G job p f o e =
+    of-ordered (Ordered g (f .update)) tt tt (λ v. tt) job p (bootStatusAt g (f .boot)) (updateStatusAt g (f .update)) (flagsAt g (f .update)) o
+    (of-flags g G (f .update) (flagsAt g (f .update)) refl) e

@@ -5,8 +5,8 @@ use mathlib.Core.List.{List}
 use Prim.Native.Nat.{ℕ, _-_}
 use lib.ListN.{set}
 use Rattle.flash.specs.declared.Geometry.{Geometry}
-use Rattle.flash.specs.Sizes.{geometry, firmware}
-use Rattle.flash.specs.Sectors.{sectorNumber, Partition, erased}
+use Rattle.flash.specs.Sizes.{geometry, firmware, Limits}
+use Rattle.flash.specs.Sectors.{sectorNumber, erased}
 use Rattle.flash.specs.Buffers.{Flash, flash, Shaped}
 use Rattle.flash_status.specs.StatusBytes.{bootStatusAt, updateStatusAt}
 use Rattle.flash_flags.specs.declared.Flag.the-variants.{Exchanged}
@@ -50,7 +50,7 @@ pub record Current (g : Geometry) (u : List ℕ) (at : Progress) : Type 0 where
 -- By what is carried the next operation is the one that the rules find by reading all flags.
 abbrev pub SameNext : Type 0
 SameNext =
-    (job : Job) (g : Geometry) (at : Progress) (boot update : List ℕ) → Partition g update → Current g update at
+    (job : Job) (g : Geometry) (at : Progress) (boot update : List ℕ) → Limits g → Current g update at
     → nextAt job g at boot update ≡ nextBy job g (at .phase) boot update
 
 -- After each operation that the rules order, the scan gives the front as `frontAfter` moves it.
@@ -73,7 +73,7 @@ pub record StepTaken (p : ℕ) (f : Flash) (o : Operation) (k k′ : ℕ) : Type
   pub before : front (geometry 3 256) (f .update) ≡ k
   pub after : front (geometry 3 256) (perform (geometry 3 256) o f .update) ≡ k′
 
--- UPDATE and BOOT with these flag and status bytes, and FF elsewhere; SWAP is FF
+-- BOOT with this status byte; UPDATE UPDATING, with this flag byte; FF elsewhere, and in SWAP
 abbrev pub flagged : ℕ → ℕ → Flash
 flagged flagByte status = flash (set (erased 768) 767 status) (set (set (erased 768) 766 flagByte) 767 0x70) (erased 256)
 

@@ -9,13 +9,14 @@ use flash::SectorNumber;
 use flash_flags::Leg;
 ghost use mathlib.Core.Path.{_≡_};
 ghost use Prim.Native.Nat.{_<_, _≤_};
+ghost use Rattle.flash.specs.Sizes.{firmware};
 ghost use Rattle.flash.specs.Sectors.{erased};
 ghost use Rattle.flash.specs.Buffers.{lent, Shaped};
 ghost use Rattle.flash_flags.specs.Front.{WellFormed};
 ghost use Rattle.exchange.specs.Operations.{put, perform};
-ghost use Rattle.exchange.specs.Order.{step, run};
-ghost use Rattle.exchange_front.specs.Carried.{progressScanned, Current};
-ghost use Rattle.exchange_steps.specs.Inner.{SectorWithin, stepped, ran};
+ghost use Rattle.exchange.specs.Order.{run};
+ghost use Rattle.exchange_front.specs.Carried.{Current};
+ghost use Rattle.exchange_steps.specs.Inner.{SectorWithin, ran, Steps};
 
 // Erases sector i of an area. SWAP is one sector, whatever i.
 fn erase_in(
@@ -92,10 +93,9 @@ pub fn do_next(
     update: &mut [u8],
     swap: &mut [u8],
 ) -> StepAnswer
-    requires { ⌜ (Shaped g (lent boot update swap)) × (Current g (now update) at) × (0 < at .left) ⌝ }
-    ensures { λ r. ⌜ (stepped r (lent (boot .exit) (update .exit) (swap .exit))
-        ≡ step job g (at .phase) (lent (boot .entry) (update .entry) (swap .entry)))
-        × (r .progress ≡ progressScanned g (now (update .exit)) (r .next) at) ⌝ }
+    requires { ⌜ (Shaped g (lent boot update swap)) × (at .front .0 ≤ firmware g) × (0 < at .left) ⌝ }
+    ensures { λ r. ⌜ Steps job g at (lent (boot .entry) (update .entry) (swap .entry))
+        r (lent (boot .exit) (update .exit) (swap .exit)) ⌝ }
 {
     let next = exchange_front::find_next(g, job, at, boot, update);
     match next {

@@ -23,14 +23,15 @@ use Rattle.flash_flags.specs.declared.Leg.the-variants.{UpdateToSwap, Bo
 use Rattle.flash_flags.specs.declared.Flags.{Flags}
 use Rattle.flash_flags.specs.declared.Flags.the-variants.{Malformed, AllF, At, All0}
 use Rattle.flash_flags.specs.SectorFlags.{moved, legFlag, legMoves, flagOf, flagByte, half, flagAt, setFlag, flagsFrom, flags, flagsAt}
-use Rattle.flash_flags.specs.Front.{is0, firstNot0, front, byOwnFlag, byFront, untouchedAfter, WellFormed, IsFront, FrontExactly, ShowsFront, FrontTells, WritesFront, FrontCases}
-use Rattle.flash_flags.proofs.Shown.{allF-from, each-from, shown-all-F, shown-all-0, shown-at, each-F, each-0, each-at}
-use Rattle.flash_flags.proofs.Moves.{AfterMoves, atLeg, shown-leg, shown-every, moves-leg, moves-on}
+use Rattle.flash_flags.specs.Front.{is0, firstNot0, front, byOwnFlag, byFront, untouchedAfter, WellFormed, IsFront, FrontExactly, ShowsFront, FrontTells, FrontWritten, WritesFront, FrontCases}
+use Rattle.flash_flags.proofs.Shown.{allF-from, each-from, F-at-0, shown-all-0, shown-at, each-F, each-0, each-at}
+use Rattle.flash_flags.proofs.Moves.{moved-none, AfterMoves, atLeg, shown-leg, shown-every, moves-leg, moves-on}
 use Rattle.flash_flags.proofs.Laws.{flag-sector, flags-erased, flag-same, flag-other, flag-status}
 
 -- ---- its number, where it is handed over
-pub number : {i : SectorNumber} {k : ℕ} → i ≡ sectorNumber k → k ≡ i .0
-number e = sym (ap (λ (x : SectorNumber). x .0) e)
+
+pub sector-number : {i : SectorNumber} {k : ℕ} → i ≡ sectorNumber k → k ≡ i .0
+sector-number e = sym (ap (λ (x : SectorNumber). x .0) e)
 
 -- ---- it finds the first sector whose flag is not 0
 
@@ -82,8 +83,8 @@ front-within g u = is-front g u .within
 pub front-small : (g : Geometry) (u : List ℕ) → Limits g → front g u < mostSectors
 front-small g u G = omega (arith, front-within g u, sectors-are g G, G .many)
 
-pub front-below : (g : Geometry) (u : List ℕ) (i m : ℕ) → front g u ≡ i → m ≡ firmware g → i ≢ m → i < firmware g
-front-below g u i m e q n = by (decLt i (firmware g))
+front-below : (g : Geometry) (u : List ℕ) (i : ℕ) → front g u ≡ i → i ≢ firmware g → i < firmware g
+front-below g u i e n = by (decLt i (firmware g))
   where
     by : Dec (i < firmware g) → i < firmware g
     by (yes h) = h
@@ -98,7 +99,7 @@ one-front g u i j x y = by (decLt i j) (decLt j i)
     by (no a) (yes b) = absurd (y .here (omega (arith, x .within)) (x .before j b))
     by (no a) (no b) = omega arith
 
-pub front-is : (g : Geometry) (u : List ℕ) (i : ℕ) → IsFront g u i → front g u ≡ i
+front-is : (g : Geometry) (u : List ℕ) (i : ℕ) → IsFront g u i → front g u ≡ i
 front-is g u i x = one-front g u (front g u) i (is-front g u) x
 
 pub front-exactly : FrontExactly
@@ -106,26 +107,23 @@ front-exactly g u i = (λ e. subst (IsFront g u) e (is-front g u), front-is g u 
 
 -- ---- what the flags show by it
 
-untouched-not-0 : Known Untouched ≢ Known Exchanged
-untouched-not-0 e = let z : _≡_ {A = ℕ} 0 1 = cc in omega arith
-
 leg-not-0 : (leg : Leg) → Known (legFlag leg) ≢ Known Exchanged
 leg-not-0 UpdateToSwap e = let z : _≡_ {A = ℕ} 0 1 = cc in omega arith
 leg-not-0 BootToUpdate e = let z : _≡_ {A = ℕ} 0 1 = cc in omega arith
 leg-not-0 SwapToBoot e = let z : _≡_ {A = ℕ} 0 1 = cc in omega arith
 
 module _ (g : Geometry) (u : List ℕ) where
-  pub front-F : flagsAt g u ≡ AllF → front g u ≡ 0
+  front-F : flagsAt g u ≡ AllF → front g u ≡ 0
   front-F e =
       front-is g u 0
-      (record { within = omega arith; before = λ j b. absurd (omega arith); here = λ h q. untouched-not-0 (sym (each-F g u e 0 h) ∙ q) })
+      (record { within = omega arith; before = λ j b. absurd (omega arith); here = λ h q. leg-not-0 UpdateToSwap (sym (each-F g u e 0 h) ∙ q) })
 
-  pub front-at : (i : SectorNumber) (leg : Leg) → flagsAt g u ≡ At i leg → front g u ≡ i .0
+  front-at : (i : SectorNumber) (leg : Leg) → flagsAt g u ≡ At i leg → front g u ≡ i .0
   front-at i leg e =
       let f = each-at g u i leg e in
       front-is g u (i .0) (record { within = omega (arith, f .inside); before = f .before; here = λ h q. leg-not-0 leg (sym (f .here) ∙ q) })
 
-  pub front-0 : flagsAt g u ≡ All0 → front g u ≡ firmware g
+  front-0 : flagsAt g u ≡ All0 → front g u ≡ firmware g
   front-0 e = front-is g u (firmware g) (record { within = omega arith; before = each-0 g u e; here = λ h. absurd (omega arith) })
 
   -- F only after sector i, as one test and sector by sector
@@ -138,7 +136,7 @@ module _ (g : Geometry) (u : List ℕ) where
   after-each i e j a b = each-from g u (firmware g - (i + 1)) (i + 1) e j (omega arith) (omega arith)
 
   -- well-formed flags are F only after the front; flags that are not so are not well formed
-  pub formed-after : WellFormed g u → untouchedAfter g u (front g u) ≡ true
+  formed-after : WellFormed g u → untouchedAfter g u (front g u) ≡ true
   formed-after h = by (flagsAt g u) refl
     where
       by : (w : Flags) → flagsAt g u ≡ w → untouchedAfter g u (front g u) ≡ true
@@ -147,7 +145,7 @@ module _ (g : Geometry) (u : List ℕ) where
       by (At i leg) e = after-all (front g u) (λ j a b. each-at g u i leg e .after j (omega (arith, front-at i leg e)) b)
       by All0 e = after-all (front g u) (λ j a b. absurd (omega (arith, front-0 e)))
 
-  pub after-not : untouchedAfter g u (front g u) ≡ false → flagsAt g u ≡ Malformed
+  after-not : untouchedAfter g u (front g u) ≡ false → flagsAt g u ≡ Malformed
   after-not h = by (flagsAt g u) refl
     where
       wrong : (flagsAt g u ≢ Malformed) → flagsAt g u ≡ Malformed
@@ -168,13 +166,6 @@ module _ (g : Geometry) (u : List ℕ) where
     shown-end q = shown-all-0 g u (some-firmware g G) (λ j h. front-here .before j (omega arith))
 
     -- by the flag of a firmware sector
-    shown-F : i < firmware g → flagAt g u i ≡ Known Untouched → i ≡ 0 → flagsAt g u ≡ AllF
-    shown-F h q n = shown-all-F g u (λ j hj. by j hj (ℕ-discrete i j))
-      where
-        by : (j : ℕ) → j < firmware g → Dec (i ≡ j) → flagAt g u j ≡ Known Untouched
-        by j hj (yes d) = ap (flagAt g u) (sym d) ∙ q
-        by j hj (no d) = after-each i r j (omega arith) hj
-
     shown-front : i < firmware g → (leg : Leg) → flagAt g u i ≡ Known (legFlag leg) → (i ≡ 0 → leg ≢ UpdateToSwap) → flagsAt g u ≡ At (sectorNumber i) leg
     shown-front h leg q n = shown-at g u i leg h q (front-here .before) (after-each i r) n
 
@@ -194,7 +185,7 @@ module _ (g : Geometry) (u : List ℕ) where
     shown-own h = by (flagAt g u i) refl (ℕ-discrete i 0)
       where
         by : (v : FlagRead) → flagAt g u i ≡ v → Dec (i ≡ 0) → flagsAt g u ≡ byOwnFlag i v
-        by (Known Untouched) q (yes n) = rw (eq-eqb i 0 n) (shown-F h q n)
+        by (Known Untouched) q (yes n) = rw (eq-eqb i 0 n) (F-at-0 g u i n q (after-each i r))
         by (Known Untouched) q (no n) = rw (ne-eqb i 0 n) (shown-front h UpdateToSwap q (λ z. absurd (n z)))
         by (Known Saved) q d = shown-front h BootToUpdate q (λ n z. let x : _≡_ {A = ℕ} 0 1 = cc in omega arith)
         by (Known Moved) q d = shown-front h SwapToBoot q (λ n z. let x : _≡_ {A = ℕ} 0 1 = cc in omega arith)
@@ -206,31 +197,31 @@ module _ (g : Geometry) (u : List ℕ) where
       where
         by : Dec (i ≡ firmware g) → flagsAt g u ≡ byFront (firmware g) i (flagAt g u i)
         by (yes q) = rw (eq-eqb i (firmware g) q) (shown-end q)
-        by (no q) = rw (ne-eqb i (firmware g) q) (shown-own (front-below g u i (firmware g) e refl q))
+        by (no q) = rw (ne-eqb i (firmware g) q) (shown-own (front-below g u i e q))
 
 pub front-tells : FrontTells
-front-tells g u P = record {
+front-tells g u G = record {
   told = by (untouchedAfter g u (front g u)) refl;
-  alone = λ h. shown-by-front g u (P .limits) (front g u) refl (formed-after g u h);
+  alone = λ h. shown-by-front g u G (front g u) refl (formed-after g u h);
 }
   where
     by : (b : Bool) → untouchedAfter g u (front g u) ≡ b → flagsAt g u ≡ cond b (byFront (firmware g) (front g u) (flagAt g u (front g u))) Malformed
-    by true e = shown-by-front g u (P .limits) (front g u) refl e
+    by true e = shown-by-front g u G (front g u) refl e
     by false e = after-not g u e
 
 -- what is read of the front i and of the flags after it
-module _ (g : Geometry) (u : List ℕ) (P : Partition g u) (i : ℕ) (e : front g u ≡ i) where
+module _ (g : Geometry) (u : List ℕ) (G : Limits g) (i : ℕ) (e : front g u ≡ i) where
   pub told-shown : (w : Flags) → w ≡ byFront (firmware g) i (flagAt g u i) → untouchedAfter g u i ≡ true → w ≡ flagsAt g u
-  told-shown w q t = q ∙ sym (rw (e, t) at (front-tells g u P .told))
+  told-shown w q t = q ∙ sym (rw (e, t) at (front-tells g u G .told))
 
   pub told-not : untouchedAfter g u i ≡ false → Malformed ≡ flagsAt g u
-  told-not t = sym (rw (e, t) at (front-tells g u P .told))
+  told-not t = sym (rw (e, t) at (front-tells g u G .told))
 
 pub shows-front : ShowsFront
-shows-front g u P = record {
+shows-front g u G = record {
   untouched = front-F g u;
   inLeg = front-at g u;
-  exchanged = (front-0 g u, λ e. shown-all-0 g u (some-firmware g (P .limits)) (λ j h. is-front g u .before j (omega arith)));
+  exchanged = (front-0 g u, λ e. shown-all-0 g u (some-firmware g G) (λ j h. is-front g u .before j (omega arith)));
 }
 
 -- ---- what each write does to it
@@ -299,56 +290,77 @@ module _ (g : Geometry) (u : List ℕ) where
   front-leg zero SwapToBoot e = front-at g u (sectorNumber 0) SwapToBoot e
   front-leg (suc i) leg e = front-at g u (sectorNumber (suc i)) leg e
 
-  pub formed-leg : (i : ℕ) (leg : Leg) → flagsAt g u ≡ atLeg i leg → WellFormed g u
+  formed-leg : (i : ℕ) (leg : Leg) → flagsAt g u ≡ atLeg i leg → WellFormed g u
   formed-leg zero UpdateToSwap e q = let z : _≡_ {A = ℕ} 0 1 = cc in omega arith
   formed-leg zero BootToUpdate e q = let z : _≡_ {A = ℕ} 0 1 = cc in omega arith
   formed-leg zero SwapToBoot e q = let z : _≡_ {A = ℕ} 0 1 = cc in omega arith
   formed-leg (suc i) leg e q = let z : _≡_ {A = ℕ} 0 1 = cc in omega arith
 
--- after so many moves the flags are well formed, and the front is the sector whose leg is next
-pub front-after : (g : Geometry) (u : List ℕ) → Limits g → (i : ℕ) (leg : Leg) (a : ℕ) → i ≤ firmware g → (i ≡ firmware g → leg ≡ UpdateToSwap) → a ≡ 3 * i + legMoves leg
-    → AfterMoves g u a → (WellFormed g u) × (front g u ≡ i)
-front-after g u G i leg a hi last q h = by (decLt i (firmware g))
+-- after so many moves, up to the last, the flags are well formed
+formed-by-moves : (g : Geometry) (u : List ℕ) → Limits g → (i : ℕ) (leg : Leg) (a : ℕ) → i ≤ firmware g → (i ≡ firmware g → leg ≡ UpdateToSwap) → a ≡ 3 * i + legMoves leg
+    → AfterMoves g u a → WellFormed g u
+formed-by-moves g u G i leg a hi last q h = by (decLt i (firmware g))
   where
     k : AfterMoves g u (3 * i + legMoves leg)
     k = subst (AfterMoves g u) q h
 
-    by : Dec (i < firmware g) → (WellFormed g u) × (front g u ≡ i)
-    by (yes d) = let e = shown-leg g u i leg d k in (formed-leg g u i leg e, front-leg g u i leg e)
+    by : Dec (i < firmware g) → WellFormed g u
+    by (yes d) = formed-leg g u i leg (shown-leg g u i leg d k)
     by (no d) =
         let n : i ≡ firmware g = omega arith in
         let z : legMoves leg ≡ 0 = ap legMoves (last n) in
-        let e : flagsAt g u ≡ All0 = shown-every g u (some-firmware g G) (subst (AfterMoves g u) (omega arith) k) in
-        (λ w. absurd (let x : _≡_ {A = ℕ} 0 1 = cc in omega arith), front-0 g u e ∙ sym n)
+        let e : flagsAt g u ≡ All0 = shown-every g u (some-firmware g G) (subst (AfterMoves g u) (omega arith) k) in λ w. absurd (let x : _≡_ {A = ℕ} 0 1 = cc in omega arith)
 
 -- the leg after a leg, and its sector
-abbrev legAfter : Leg → Leg
-legAfter UpdateToSwap = BootToUpdate
-legAfter BootToUpdate = SwapToBoot
-legAfter SwapToBoot = UpdateToSwap
+abbrev followingLeg : Leg → Leg
+followingLeg UpdateToSwap = BootToUpdate
+followingLeg BootToUpdate = SwapToBoot
+followingLeg SwapToBoot = UpdateToSwap
 
-abbrev pub sectorAfter : Leg → ℕ → ℕ
-sectorAfter UpdateToSwap i = i
-sectorAfter BootToUpdate i = i
-sectorAfter SwapToBoot i = suc i
+abbrev pub followingSector : Leg → ℕ → ℕ
+followingSector UpdateToSwap i = i
+followingSector BootToUpdate i = i
+followingSector SwapToBoot i = suc i
 
-one-on : (leg : Leg) (i : ℕ) → suc (3 * i + legMoves leg) ≡ 3 * sectorAfter leg i + legMoves (legAfter leg)
+one-on : (leg : Leg) (i : ℕ) → suc (3 * i + legMoves leg) ≡ 3 * followingSector leg i + legMoves (followingLeg leg)
 one-on UpdateToSwap i = omega arith
 one-on BootToUpdate i = omega arith
 one-on SwapToBoot i = omega arith
 
-within-after : (leg : Leg) (i m : ℕ) → i < m → (sectorAfter leg i ≤ m) × (sectorAfter leg i ≡ m → legAfter leg ≡ UpdateToSwap)
+within-after : (leg : Leg) (i m : ℕ) → i < m → (followingSector leg i ≤ m) × (followingSector leg i ≡ m → followingLeg leg ≡ UpdateToSwap)
 within-after UpdateToSwap i m h = (omega arith, λ e. absurd (omega arith))
 within-after BootToUpdate i m h = (omega arith, λ e. absurd (omega arith))
 within-after SwapToBoot i m h = (omega arith, λ e. refl)
 
 -- the flag write that ends a leg of sector i
-pub leg-over : (g : Geometry) (G : Limits g) (u : List ℕ) (U : length u ≡ partitionSize g) (i : ℕ) (leg : Leg) → i < firmware g → flagsAt g u ≡ atLeg i leg
-    → (WellFormed g (setFlag g i (moved (suc (legMoves leg))) u)) × (front g (setFlag g i (moved (suc (legMoves leg))) u) ≡ sectorAfter leg i)
-leg-over g G u U i leg hi e =
-    let w = within-after leg i (firmware g) hi in
-    front-after g (setFlag g i (moved (suc (legMoves leg))) u) G (sectorAfter leg i) (legAfter leg) (suc (3 * i + legMoves leg)) (w .0) (w .1) (one-on leg i)
-    (moves-on g G u U i leg hi (moves-leg g u i leg e))
+module _ (g : Geometry) (u : List ℕ) (P : Partition g u) (i : ℕ) (hi : i < firmware g) where
+  pub formed-on : (leg : Leg) → flagsAt g u ≡ atLeg i leg → WellFormed g (setFlag g i (moved (suc (legMoves leg))) u)
+  formed-on leg e =
+      let w = within-after leg i (firmware g) hi in
+      formed-by-moves g (setFlag g i (moved (suc (legMoves leg))) u) (P .limits) (followingSector leg i) (followingLeg leg) (suc (3 * i + legMoves leg)) (w .0) (w .1) (one-on leg i)
+      (moves-on g (P .limits) u (P .whole) i leg hi (moves-leg g u i leg e))
+
+  -- the sector after it is F, or there is none
+  next-not-0 : flagsAt g u ≡ atLeg i SwapToBoot → (suc i ≡ firmware g) ⊎ (flagAt g u (suc i) ≢ Known Exchanged)
+  next-not-0 e = by (decLt (suc i) (firmware g))
+    where
+      by : Dec (suc i < firmware g) → (suc i ≡ firmware g) ⊎ (flagAt g u (suc i) ≢ Known Exchanged)
+      by (yes h) = inr (λ q. leg-not-0 UpdateToSwap (ap Known (sym (moved-none (3 * i + 2 - 3 * suc i) (omega arith))) ∙ sym (moves-leg g u i SwapToBoot e (suc i) h) ∙ q))
+      by (no h) = inl (omega arith)
+
+  pub front-on : (leg : Leg) → flagsAt g u ≡ atLeg i leg → front g (setFlag g i (moved (suc (legMoves leg))) u) ≡ followingSector leg i
+  front-on leg e = by leg e (front-leg g u i leg e)
+    where
+      W : FrontWritten g u
+      W = writes-front g u P
+
+      not-0 : (v : Flag) → Known v ≢ Known Exchanged → v ≢ Exchanged
+      not-0 v h q = h (ap Known q)
+
+      by : (leg : Leg) → flagsAt g u ≡ atLeg i leg → front g u ≡ i → front g (setFlag g i (moved (suc (legMoves leg))) u) ≡ followingSector leg i
+      by UpdateToSwap e q = rw q at (W .flag Saved (not-0 Saved (leg-not-0 BootToUpdate)) (omega arith))
+      by BootToUpdate e q = rw q at (W .flag Moved (not-0 Moved (leg-not-0 SwapToBoot)) (omega arith))
+      by SwapToBoot e q = rw q at (W .flag0 (omega arith) (rw (sym q) at (next-not-0 e)))
 
 -- ---- cases
 

@@ -30,7 +30,7 @@ pub with-odd : (i b v : ℕ) → (i % 2 ≡ 0 → ⊥) → withHalf i b v ≡ v 
 unfolding withHalf
 with-odd i b v e = simp (ne-eqb _ _ e)
 
--- the half that is set, the other half, and the byte
+-- the half that is set, and the other half
 pub half-same : (i b v : ℕ) → v < 16 → half i (withHalf i b v) ≡ v
 half-same i b v h = by (ℕ-discrete (i % 2) 0)
   where
@@ -48,13 +48,6 @@ half-other i j b v h k = by (ℕ-discrete (i % 2) 0)
     by (no e) =
         let z : j % 2 ≡ 0 = omega arith in
         rw (with-odd i b v e, half-even j (v * 16 + b % 16) z, half-even j b z) (omega arith)
-
-pub half-narrow : (i b v : ℕ) → v < 16 → b < 256 → withHalf i b v < 256
-half-narrow i b v h k = by (ℕ-discrete (i % 2) 0)
-  where
-    by : Dec (i % 2 ≡ 0) → withHalf i b v < 256
-    by (yes e) = rw (with-even i b v e) (omega arith)
-    by (no e) = rw (with-odd i b v e) (omega arith)
 
 -- an erased byte holds F in both halves
 pub half-full : (i : ℕ) → half i 0xFF ≡ flagValue Untouched

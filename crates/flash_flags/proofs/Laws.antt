@@ -8,11 +8,11 @@ use native.Mathlib.Nat.{mul-le-mul-right}
 use native.Mathlib.Decide.{ℕ-discrete}
 use native.Mathlib.Omega.{arith}
 use lib.ListN.{length, getD, length-set}
-use lib.Seq.{getD-set-same, getD-set-other, take-set-le}
+use lib.Seq.{getD-set-same, getD-set-other}
 use Rattle.numbers.specs.Answer.{gives}
 use Rattle.flash.specs.declared.Geometry.{Geometry}
 use Rattle.flash.specs.Sizes.{firmware, partitionSize, Limits}
-use Rattle.flash.specs.Sectors.{sectorOf, writeSector, firmwareOf, erased}
+use Rattle.flash.specs.Sectors.{sectorOf, writeSector, erased}
 use Rattle.flash.proofs.Checked.{some-firmware, size-split, sector-end}
 use Rattle.flash.proofs.Bytes.{part-set}
 use Rattle.flash.proofs.Laws.{byte-above, trailer-byte}
@@ -25,9 +25,9 @@ use Rattle.flash_flags.specs.declared.Flag.the-variants.{Untouched, Save
 use Rattle.flash_flags.specs.declared.FlagRead.the-variants.{Known}
 use Rattle.flash_flags.specs.declared.Flags.the-variants.{AllF}
 use Rattle.flash_status.specs.StatusBytes.{statusPlace, statusByte, setStatusByte, bootByte, bootStatusOf, bootStatusAt, setBootStatus, updateByte, updateStatusOf, updateStatusAt, setUpdateStatus}
-use Rattle.flash_flags.specs.SectorFlags.{flagValue, flagOf, flagByte, half, withHalf, flagAt, setFlag, flagsAt}
+use Rattle.flash_flags.specs.SectorFlags.{flagValue, flagOf, flagByte, half, flagAt, setFlag, flagsAt}
 use Rattle.flash_flags.proofs.Room.{flags-in-trailer}
-use Rattle.flash_flags.proofs.Halves.{value-small, half-same, half-other, half-narrow, half-full}
+use Rattle.flash_flags.proofs.Halves.{value-small, half-same, half-other, half-full}
 use Rattle.flash_flags.proofs.Shown.{flags-same, shown-all-F}
 
 -- ---- a value that is written reads as itself
@@ -134,24 +134,9 @@ module _ (g : Geometry) (G : Limits g) where
     unfolding flagAt
     flag-other j hj h = ap flagOf (half-flag j (omega arith) h)
 
-    -- a flag byte stays a byte
-    pub flag-byte-narrow : ((j : ℕ) → j < firmware g → getD l (flagByte g j) 0 < 256) → (j : ℕ) → j < firmware g → getD (setFlag g i v l) (flagByte g j) 0 < 256
-    unfolding setFlag
-    flag-byte-narrow h j hj = by-byte (ℕ-discrete (flagByte g j) (flagByte g i))
-      where
-        by-byte : Dec (flagByte g j ≡ flagByte g i) → getD (setFlag g i v l) (flagByte g j) 0 < 256
-        by-byte (no k) = rw (getD-set-other l (flagByte g i) (flagByte g j) (withHalf i (getD l (flagByte g i) 0) (flagValue v)) 0 k) (h j hj)
-        by-byte (yes e) =
-            rw (e, getD-set-same l (flagByte g i) (withHalf i (getD l (flagByte g i) 0) (flagValue v)) 0 (omega (arith, (flag-place i hi) .1)))
-            (half-narrow i (getD l (flagByte g i) 0) (flagValue v) (value-small v) (h i hi))
-
     pub sector-flag : (j : ℕ) → j < firmware g → sectorOf g j (setFlag g i v l) ≡ sectorOf g j l
     unfolding setFlag
     sector-flag j hj = part-set (j * g .size) (g .size) (flagByte g i) _ l (omega (arith, (flag-place i hi) .0, sector-end (g .size) j (firmware g) hj))
-
-    pub firmware-flag : firmwareOf g (setFlag g i v l) ≡ firmwareOf g l
-    unfolding setFlag
-    firmware-flag = take-set-le (firmware g * g .size) l (flagByte g i) _ ((flag-place i hi) .0)
 
     pub status-flag : statusByte g (setFlag g i v l) ≡ statusByte g l
     unfolding statusByte
@@ -176,10 +161,6 @@ module _ (g : Geometry) (G : Limits g) where
     unfolding setStatusByte
     sector-status j hj =
         part-set (j * g .size) (g .size) (statusPlace g) b l (omega (arith, size-split g G, G .small, sector-end (g .size) j (firmware g) hj))
-
-    pub firmware-status : firmwareOf g (setStatusByte g b l) ≡ firmwareOf g l
-    unfolding setStatusByte
-    firmware-status = take-set-le (firmware g * g .size) l (statusPlace g) b (omega (arith, size-split g G, G .small))
 
     pub flag-status : (j : ℕ) → j < firmware g → flagAt g (setStatusByte g b l) j ≡ flagAt g l j
     unfolding flagAt

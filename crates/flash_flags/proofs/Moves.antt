@@ -53,7 +53,7 @@ module _ (g : Geometry) (u : List ℕ) where
   pub shown-none : AfterMoves g u 0 → flagsAt g u ≡ AllF
   shown-none h = shown-all-F g u (λ j hj. h j hj ∙ ap Known (moved-none (0 - 3 * j) (omega arith)))
 
-  pub shown-after : (i : ℕ) (leg : Leg) → i < firmware g → 0 < 3 * i + legMoves leg → AfterMoves g u (3 * i + legMoves leg) → flagsAt g u ≡ At (sectorNumber i) leg
+  shown-after : (i : ℕ) (leg : Leg) → i < firmware g → 0 < 3 * i + legMoves leg → AfterMoves g u (3 * i + legMoves leg) → flagsAt g u ≡ At (sectorNumber i) leg
   shown-after i leg hi some h =
       let e : 3 * i + legMoves leg - 3 * i ≡ legMoves leg = omega arith in
       shown-at g u i leg hi

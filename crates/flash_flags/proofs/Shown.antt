@@ -85,17 +85,17 @@ zeros-at g u (suc k) i p leg a b e h t = by (ℕ-discrete i p) (λ a′. zeros-a
     by (no q) more = rw (h i (omega arith) (omega arith)) (more (omega arith))
 
 -- what flags show that are not all F: sector p is the first whose flag is not 0, of k sectors from sector i on
-pub record Front (g : Geometry) (u : List ℕ) (i k p : ℕ) (leg : Leg) : Type 0 where
-  pub low : i ≤ p
-  pub high : p < i + k
-  pub here : flagAt g u p ≡ Known (legFlag leg)
-  pub before : (j : ℕ) → i ≤ j → j < p → flagAt g u j ≡ Known Exchanged
-  pub after : (j : ℕ) → p < j → j < i + k → flagAt g u j ≡ Known Untouched
+record FirstLeg (g : Geometry) (u : List ℕ) (i k p : ℕ) (leg : Leg) : Type 0 where
+  low : i ≤ p
+  high : p < i + k
+  here : flagAt g u p ≡ Known (legFlag leg)
+  before : (j : ℕ) → i ≤ j → j < p → flagAt g u j ≡ Known Exchanged
+  after : (j : ℕ) → p < j → j < i + k → flagAt g u j ≡ Known Untouched
 
-front-here : (g : Geometry) (u : List ℕ) (k i : ℕ) (here leg : Leg) (p : SectorNumber) (r : Bool) → r ≡ allF (flagsFrom g u k (suc i))
-    → flagAt g u i ≡ Known (legFlag here) → frontAt i here r ≡ At p leg → Front g u i (suc k) (p .0) leg
-front-here g u k i here leg p false q e s = absurd (let z : _≡_ {A = ℕ} 0 1 = cc in omega arith)
-front-here g u k i here leg p true q e s =
+leg-here : (g : Geometry) (u : List ℕ) (k i : ℕ) (here leg : Leg) (p : SectorNumber) (r : Bool) → r ≡ allF (flagsFrom g u k (suc i))
+    → flagAt g u i ≡ Known (legFlag here) → frontAt i here r ≡ At p leg → FirstLeg g u i (suc k) (p .0) leg
+leg-here g u k i here leg p false q e s = absurd (let z : _≡_ {A = ℕ} 0 1 = cc in omega arith)
+leg-here g u k i here leg p true q e s =
     let a : sectorNumber i ≡ p = cc in
     let n : i ≡ p .0 = ap (λ (x : SectorNumber). x .0) a in
     let b : here ≡ leg = cc in
@@ -107,15 +107,15 @@ front-here g u k i here leg p true q e s =
       after = λ j x y. each-from g u k (suc i) (sym q) j (omega arith) (omega arith);
     }
 
-zeros-front : (g : Geometry) (u : List ℕ) (k i : ℕ) (p : SectorNumber) (leg : Leg) → pastZeros i (flagsFrom g u k i) ≡ At p leg → Front g u i k (p .0) leg
+zeros-front : (g : Geometry) (u : List ℕ) (k i : ℕ) (p : SectorNumber) (leg : Leg) → pastZeros i (flagsFrom g u k i) ≡ At p leg → FirstLeg g u i k (p .0) leg
 unfolding pastZeros flagsFrom
 zeros-front g u zero i p leg e = absurd (let z : _≡_ {A = ℕ} 0 1 = cc in omega arith)
 zeros-front g u (suc k) i p leg e = by (flagAt g u i) refl e (λ s. zeros-front g u k (suc i) p leg s)
   where
     by : (v : FlagRead) → flagAt g u i ≡ v → byFlag i v (allF (flagsFrom g u k (suc i))) (pastZeros (suc i) (flagsFrom g u k (suc i))) ≡ At p leg
-        → (pastZeros (suc i) (flagsFrom g u k (suc i)) ≡ At p leg → Front g u (suc i) k (p .0) leg) → Front g u i (suc k) (p .0) leg
+        → (pastZeros (suc i) (flagsFrom g u k (suc i)) ≡ At p leg → FirstLeg g u (suc i) k (p .0) leg) → FirstLeg g u i (suc k) (p .0) leg
     by (Known Exchanged) q s more =
-        let f : Front g u (suc i) k (p .0) leg = more s in
+        let f : FirstLeg g u (suc i) k (p .0) leg = more s in
         record {
           low = omega (arith, f .low);
           high = omega (arith, f .high);
@@ -124,12 +124,12 @@ zeros-front g u (suc k) i p leg e = by (flagAt g u i) refl e (λ s. zeros-front 
           after = λ j x y. f .after j x (omega arith);
         }
       where
-        first : (j : ℕ) → i ≤ j → j < p .0 → Dec (i ≡ j) → Front g u (suc i) k (p .0) leg → flagAt g u j ≡ Known Exchanged
+        first : (j : ℕ) → i ≤ j → j < p .0 → Dec (i ≡ j) → FirstLeg g u (suc i) k (p .0) leg → flagAt g u j ≡ Known Exchanged
         first j x y (yes n) f = ap (flagAt g u) (sym n) ∙ q
         first j x y (no n) f = f .before j (omega arith) y
-    by (Known Untouched) q s more = front-here g u k i UpdateToSwap leg p (allF (flagsFrom g u k (suc i))) refl q s
-    by (Known Saved) q s more = front-here g u k i BootToUpdate leg p (allF (flagsFrom g u k (suc i))) refl q s
-    by (Known Moved) q s more = front-here g u k i SwapToBoot leg p (allF (flagsFrom g u k (suc i))) refl q s
+    by (Known Untouched) q s more = leg-here g u k i UpdateToSwap leg p (allF (flagsFrom g u k (suc i))) refl q s
+    by (Known Saved) q s more = leg-here g u k i BootToUpdate leg p (allF (flagsFrom g u k (suc i))) refl q s
+    by (Known Moved) q s more = leg-here g u k i SwapToBoot leg p (allF (flagsFrom g u k (suc i))) refl q s
     by Unknown q s more = absurd (let z : _≡_ {A = ℕ} 0 1 = cc in omega arith)
 
 -- ---- by each flag, what all of them show
@@ -234,20 +234,22 @@ module _ (g : Geometry) (u : List ℕ) where
       by false s = s
 
   -- F at sector 0 with F after it is all F
-  F-at-0 : (p : ℕ) (leg : Leg) → p ≡ 0 → leg ≡ UpdateToSwap → Front g u 0 (firmware g) p leg → flagsAt g u ≡ AllF
-  F-at-0 p leg n q f = shown-all-F g u (λ j hj. by j hj (ℕ-discrete p j))
+  pub F-at-0 : (p : ℕ) → p ≡ 0 → flagAt g u p ≡ Known Untouched → ((j : ℕ) → p < j → j < firmware g → flagAt g u j ≡ Known Untouched) → flagsAt g u ≡ AllF
+  F-at-0 p n e h = shown-all-F g u (λ j hj. by j hj (ℕ-discrete p j))
     where
       by : (j : ℕ) → j < firmware g → Dec (p ≡ j) → flagAt g u j ≡ Known Untouched
-      by j hj (yes k) = ap (flagAt g u) (sym k) ∙ f .here ∙ ap (λ (x : Leg). Known (legFlag x)) q
-      by j hj (no k) = f .after j (omega arith) (omega arith)
+      by j hj (yes k) = ap (flagAt g u) (sym k) ∙ e
+      by j hj (no k) = h j (omega arith) hj
 
   pub each-at : (p : SectorNumber) (leg : Leg) → flagsAt g u ≡ At p leg → ShownAt g u (p .0) leg
   each-at p leg e =
-      let f : Front g u 0 (firmware g) (p .0) leg = zeros-front g u (firmware g) 0 p leg (past-zeros p leg e) in
+      let f : FirstLeg g u 0 (firmware g) (p .0) leg = zeros-front g u (firmware g) 0 p leg (past-zeros p leg e) in
       record {
         inside = omega (arith, f .high);
         here = f .here;
         before = λ j a. f .before j (omega arith) a;
         after = λ j a b. f .after j a (omega arith);
-        notAllF = λ n q. let z : _≡_ {A = ℕ} 0 1 = cc (F-at-0 (p .0) leg n q f) in omega arith;
+        notAllF = λ n q.
+            let k : flagsAt g u ≡ AllF = F-at-0 (p .0) n (f .here ∙ ap (λ (x : Leg). Known (legFlag x)) q) (λ j a b. f .after j a (omega arith)) in
+            let z : _≡_ {A = ℕ} 0 1 = cc in omega arith;
       }

@@ -8,7 +8,7 @@ use lib.ListN.{length, getD}
 use lib.Dec.{eqb}
 use Rattle.flash.specs.declared.Geometry.{Geometry}
 use Rattle.flash.specs.declared.SectorNumber.{SectorNumber}
-use Rattle.flash.specs.Sizes.{geometry, firmware}
+use Rattle.flash.specs.Sizes.{geometry, firmware, Limits}
 use Rattle.flash.specs.Sectors.{sectorNumber, Partition, writeSector, erased}
 use Rattle.flash_status.specs.StatusBytes.{setStatusByte}
 use Rattle.flash_flags.specs.declared.Flag.{Flag}
@@ -38,7 +38,8 @@ firstNot0 i (v ∷ vs) = cond (is0 v) (firstNot0 (suc i) vs) i
 unfoldable pub front : Geometry → List ℕ → ℕ
 front g u = firstNot0 0 (flags g u)
 
--- What the flags of m sectors show by a front i and its own flag v, whatever the others are: the leg of sector i. No front has flag 0.
+-- What the flags show by a front i that is a firmware sector and its own flag v, if those after it are F only: all F, or the leg of sector
+-- i. No front has flag 0.
 abbrev pub byOwnFlag : ℕ → FlagRead → Flags
 byOwnFlag i (Known Untouched) = cond (eqb i 0) AllF (At (sectorNumber i) UpdateToSwap)
 byOwnFlag i (Known Saved) = At (sectorNumber i) BootToUpdate
@@ -46,6 +47,7 @@ byOwnFlag i (Known Moved) = At (sectorNumber i) SwapToBoot
 byOwnFlag i (Known Exchanged) = Malformed
 byOwnFlag i Unknown = Malformed
 
+-- The same by any front of m firmware sectors: where it is m, all flags are 0.
 abbrev pub byFront : ℕ → ℕ → FlagRead → Flags
 byFront m i v = cond (eqb i m) All0 (byOwnFlag i v)
 
@@ -76,7 +78,7 @@ pub record FrontShown (g : Geometry) (u : List ℕ) : Type 0 where
   pub exchanged : (flagsAt g u ≡ All0) ↔ (front g u ≡ firmware g)
 
 abbrev pub ShowsFront : Type 0
-ShowsFront = (g : Geometry) (u : List ℕ) → Partition g u → FrontShown g u
+ShowsFront = (g : Geometry) (u : List ℕ) → Limits g → FrontShown g u
 
 -- The front and its own flag tell all that the flags show, if those after it are F only; else they are not well formed. So of well-formed
 -- flags no other has to be read.
@@ -85,10 +87,10 @@ pub record ToldByFront (g : Geometry) (u : List ℕ) : Type 0 where
   pub alone : WellFormed g u → flagsAt g u ≡ byFront (firmware g) (front g u) (flagAt g u (front g u))
 
 abbrev pub FrontTells : Type 0
-FrontTells = (g : Geometry) (u : List ℕ) → Partition g u → ToldByFront g u
+FrontTells = (g : Geometry) (u : List ℕ) → Limits g → ToldByFront g u
 
 -- What the writes that are done in UPDATE do to it: the erase of the trailer sector makes it 0; a write to a firmware sector or to the
--- status byte, or of another flag than 0 at the front, leaves it; flag 0 at the front takes it to the next sector, if that is m or has a
+-- status byte, or of a flag other than 0 at the front, leaves it; flag 0 at the front takes it to the next sector, if that is m or has a
 -- flag that is not 0.
 pub record FrontWritten (g : Geometry) (u : List ℕ) : Type 0 where
   pub trailer : front g (writeSector g (firmware g) (erased (g .size)) u) ≡ 0

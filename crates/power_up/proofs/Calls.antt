@@ -2,11 +2,11 @@
 use mathlib.Core.Path.{_≡_, refl, sym, ap, _∙_}
 use mathlib.Core.Logic.{_≢_}
 use mathlib.Core.List.{List}
-use Prim.Native.Nat.{ℕ}
+use Prim.Native.Nat.{ℕ, _-_}
 use native.Mathlib.Omega.{arith}
 use Rattle.numbers.specs.Answer.{Answer, gives, refused, numbered, Reason}
 use Rattle.flash.specs.declared.Geometry.{Geometry}
-use Rattle.flash.specs.Sizes.{geometry}
+use Rattle.flash.specs.Sizes.{geometry, Limits}
 use Rattle.flash.specs.Buffers.{Flash, flashOf}
 use Rattle.flash.proofs.Answers.{flash-asked, flash-fits, flash-unfit}
 use Rattle.flash_status.specs.declared.BootStatus.{BootStatus}
@@ -21,6 +21,10 @@ use Rattle.exchange.specs.Decision.{Check, Plan, work, decideStatuses, decideWi
 use Rattle.exchange.specs.declared.Job.{Job}
 use Rattle.exchange.specs.Order.{Run, nextOperation}
 use Rattle.exchange.specs.PowerUp.{refusal, idle, outcomeBy, worked, carryOut, powerUp}
+use Rattle.exchange_front.specs.declared.Progress.{Progress}
+use Rattle.exchange_front.specs.Carried.{nextAt, Current}
+use Rattle.exchange_front.proofs.Follows.{same-next}
+use Rattle.exchange_steps.specs.Inner.{ran}
 use Rattle.numbers.specs.declared.TurnDownReason.{TurnDownReason}
 use Rattle.numbers.specs.GivenBack.{reasonOf}
 use Rattle.power_up_decision.specs.declared.Plan as code
@@ -63,8 +67,10 @@ pub work-formed : (check : Check) (g : Geometry) (boot update : List ℕ) (plan 
 work-formed check g boot update plan job why w e q =
     refused-malformed (bootStatusAt g boot) (updateStatusAt g update) (check g update) (check g boot) job (reasonOf why) (rw q at (sym e ∙ ap planOf w))
 
--- the outcome, the reason and the count beside the flash that the steps left, by their run
-pub job-answered : (check : Check) (g : Geometry) (job : Job) (why : TurnDownReason) (o : Outcome) (n : ℕ) (r x : Run) → r ≡ x
-    → outcomeOf o ≡ outcomeBy (nextOperation job g (r .phase) (r .flash)) job (check g (r .flash .boot)) → n ≡ r .count
-    → answered (record { outcome = o; reason = why; count = n }) (r .flash) ≡ worked check g job (reasonOf why) x
-job-answered check g job why o n r x e eo en = rw (eo, en) (ap (worked check g job (reasonOf why)) e)
+-- the outcome, the reason and the count beside the flash f that the steps left, by what they carried to their end
+pub job-answered : (check : Check) (g : Geometry) → Limits g → (job : Job) (why : TurnDownReason) (o : Outcome) (n budget : ℕ) (at : Progress) (f : Flash) (x : Run)
+    → ran budget at f ≡ x → Current g (f .update) at → outcomeOf o ≡ outcomeBy (nextAt job g at (f .boot) (f .update)) job (check g (f .boot))
+    → n ≡ budget - at .left → answered (record { outcome = o; reason = why; count = n }) f ≡ worked check g job (reasonOf why) x
+unfolding nextOperation
+job-answered check g G job why o n budget at f x e k eo en =
+    rw (eo, en, same-next job g at (f .boot) (f .update) G k) (ap (worked check g job (reasonOf why)) e)

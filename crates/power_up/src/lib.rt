@@ -9,13 +9,15 @@ use numbers::PowerUpRefusal;
 use numbers::TurnDownReason;
 use power_up_decision::Plan;
 ghost use mathlib.Core.Path.{_≡_};
+ghost use Prim.Native.Nat.{_≤_};
+ghost use Rattle.flash.specs.Sizes.{firmware};
 ghost use Rattle.flash.specs.Sectors.{Partition};
 ghost use Rattle.flash.specs.Buffers.{lent, Shaped};
 ghost use Rattle.flash_flags.specs.Front.{WellFormed};
-ghost use Rattle.exchange.specs.Order.{nextBy, run};
+ghost use Rattle.exchange.specs.Order.{run};
 ghost use Rattle.exchange.specs.Decision.{decideWithin};
 ghost use Rattle.exchange.specs.PowerUp.{ifBootGood, doneOutcome, outcomeBy, worked, carryOut};
-ghost use Rattle.exchange_front.specs.Carried.{Current};
+ghost use Rattle.exchange_front.specs.Carried.{nextAt};
 ghost use Rattle.image.specs.Verdict.{checkOf};
 ghost use Rattle.numbers.specs.GivenBack.{reasonOf};
 ghost use Rattle.power_up_decision.specs.Inner.{planOf};
@@ -73,9 +75,9 @@ fn done_outcome(job: Job) -> Outcome
 
 // The outcome of a job whose steps have come this far: "cut" where one more is ordered.
 fn outcome_at(g: Geometry, job: Job, at: Progress, boot: &[u8], update: &[u8]) -> Outcome
-    requires { ⌜ (Partition g (now boot)) × (Partition g (now update)) × (Current g (now update) at) ⌝ }
+    requires { ⌜ (Partition g (now boot)) × (Partition g (now update)) × (at .front .0 ≤ firmware g) ⌝ }
     ensures { λ r. ⌜ outcomeOf r
-        ≡ outcomeBy (nextBy job g (at .phase) (now (boot .entry)) (now (update .entry))) job (checkOf g (now (boot .entry))) ⌝ }
+        ≡ outcomeBy (nextAt job g at (now (boot .entry)) (now (update .entry))) job (checkOf g (now (boot .entry))) ⌝ }
 {
     match exchange_front::find_next(g, job, at, boot, update) {
         Next::Do(_) => Outcome::Cut,

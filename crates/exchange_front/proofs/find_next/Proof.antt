@@ -1,7 +1,7 @@
 use mathlib.Core.Path.{sym, ap, _∙_}
 use Rattle.flash_flags.specs.declared.Flags.{Flags}
 use Rattle.exchange.specs.Order.{ordered}
-use Rattle.exchange_front.proofs.Orders.{ordered-allowed, ordered-not}
+use Rattle.exchange_front.proofs.ByStatuses.{ordered-allowed, ordered-not}
 use borrow.Author.Needs.{needs}
 use Rattle.exchange_front.proofs.find_next.Statement.{statement}
 use Rattle.exchange_front.proofs.find_next.Tie as tie

@@ -7,6 +7,7 @@ use Rattle.flash.specs.Buffers.{Flash, flash, Shaped}
 use Rattle.flash.proofs.Checked.{update-partition}
 use Rattle.exchange.specs.Order.{run}
 use Rattle.exchange_front.specs.Carried.{Current}
+use Rattle.exchange_front.proofs.Follows.{current-within}
 use Rattle.exchange_steps.proofs.Runs.{runLeft, shaped-kept, current-start, current-same, run-start, run-on, left-on, current-on, run-over, run-spent}
 use Rattle.exchange_steps.proofs.repeat_step.Statement.{statement}
 use Rattle.exchange_steps.proofs.repeat_step.Tie as tie
@@ -33,8 +34,10 @@ loop-holds c =
 
 do-next-requires : tie.Need-do-next-requires Inv-loop μ-loop
 do-next-requires c κs =
-    let l = c .before .before .before .before .before .loop in
-    (l .inv .1, l .inv .2, omega (arith, c .before .before .before .if1 .taken))
+    let r = c .before .before .before in
+    let l = r .before .before .loop in
+    let a = r .before .before .before .before .before .before .before .before .args in
+    (l .inv .1, current-within (a .g) (l .update) (l .at) (l .inv .2), omega (arith, r .if1 .taken))
 
 loop-less : tie.Need-loop-less Inv-loop μ-loop
 loop-less c =
@@ -43,7 +46,7 @@ loop-less c =
     let l = r .before .before .loop in
     let a = r .before .before .before .before .before .before .before .before .args in
     let s = t .do-next in
-    let e = left-on (a .job) (a .g) (a .budget) (l .at) (flash (l .boot) (l .update) (l .swap)) _ (s .result) (s .ensures .0) _ (c .before .enum-told .given .1) (s .ensures .1) in
+    let e = left-on (a .job) (a .g) (a .budget) (l .at) (flash (l .boot) (l .update) (l .swap)) _ (s .result) (s .ensures .ruled (l .inv .2)) _ (c .before .enum-told .given .1) (s .ensures .scanned (l .inv .2)) in
     omega (arith, e, r .if1 .taken)
 
 loop-again : tie.Need-loop-again Inv-loop μ-loop
@@ -55,11 +58,11 @@ loop-again c =
     let s = t .do-next in
     let f = flash (l .boot) (l .update) (l .swap) in
     let n = c .before .enum-told .given .1 in
-    let e = left-on (a .job) (a .g) (a .budget) (l .at) f _ (s .result) (s .ensures .0) _ n (s .ensures .1) in (
+    let e = left-on (a .job) (a .g) (a .budget) (l .at) f _ (s .result) (s .ensures .ruled (l .inv .2)) _ n (s .ensures .scanned (l .inv .2)) in (
       omega (arith, e, l .inv .0),
       shaped-kept (a .g) (l .boot) (l .update) (l .swap) _ _ _ (l .inv .1) (s .kept .1 .1 .1 .0) (s .kept .1 .1 .1 .1 .0) (s .kept .1 .1 .1 .1 .1 .0),
-      current-on (a .job) (a .g) (a .budget) (l .at) f _ (s .result) (s .ensures .0) _ n (s .ensures .1) (l .inv .1) (l .inv .2),
-      run-on (a .job) (a .g) (a .budget) (l .at) f _ (s .result) (s .ensures .0) _ n (s .ensures .1) (omega (arith, r .if1 .taken)) (l .inv .0) ∙ l .inv .3,
+      current-on (a .job) (a .g) (a .budget) (l .at) f _ (s .result) (s .ensures .ruled (l .inv .2)) _ n (s .ensures .scanned (l .inv .2)) (l .inv .1) (l .inv .2),
+      run-on (a .job) (a .g) (a .budget) (l .at) f _ (s .result) (s .ensures .ruled (l .inv .2)) _ n (s .ensures .scanned (l .inv .2)) (omega (arith, r .if1 .taken)) (l .inv .0) ∙ l .inv .3,
       s .kept .1 .1 .1 .0 ∙ l .inv .4,
       s .kept .1 .1 .1 .1 .0 ∙ l .inv .5,
       s .kept .1 .1 .1 .1 .1 .0 ∙ l .inv .6,
@@ -87,7 +90,7 @@ returns c =
     let l = r .before .before .loop in
     let a = r .before .before .before .before .before .before .before .before .args in
     let s = t .do-next in
-    let o = run-over (a .job) (a .g) (a .budget) (l .at) (flash (l .boot) (l .update) (l .swap)) _ (s .result) (s .ensures .0) (c .enum-told2 .given .1) (omega (arith, r .if1 .taken)) in
+    let o = run-over (a .job) (a .g) (a .budget) (l .at) (flash (l .boot) (l .update) (l .swap)) _ (s .result) (s .ensures .ruled (l .inv .2)) (c .enum-told2 .given .1) (omega (arith, r .if1 .taken)) in
     (o .0 ∙ l .inv .3, current-same (a .g) _ _ (l .at) (ap (λ (x : Flash). x .update) (o .1)) (l .inv .2), l .inv .0)
 
 same-length-4 : tie.Need-same-length-4 Inv-loop μ-loop
