@@ -101,13 +101,11 @@ fn decide_by(g: Geometry, b: BootStatus, u: UpdateStatus, boot: &[u8], update: &
     match u {
         UpdateStatus::New => match b {
             BootStatus::Testing => decide_fallback(g, update),
-            BootStatus::New => Plan::Plain,
-            BootStatus::Success => Plan::Plain,
+            BootStatus::New | BootStatus::Success => Plan::Plain,
         },
         UpdateStatus::Updating => match b {
             BootStatus::Testing => decide_closing(g, update),
-            BootStatus::New => decide_update(g, boot, update),
-            BootStatus::Success => decide_update(g, boot, update),
+            BootStatus::New | BootStatus::Success => decide_update(g, boot, update),
         },
     }
 }

@@ -1,3 +1,7 @@
+use mathlib.Core.List.{[], _∷_}
+use mathlib.Core.Path.{_∙_}
+use types.Run.{miss}
+use Rattle.power_up_decision.proofs.Readings.{rests, armed-update}
 use borrow.Author.Needs.{needs}
 use Rattle.power_up_decision.proofs.decide_by.Statement.{statement}
 use Rattle.power_up_decision.proofs.decide_by.Tie as tie
@@ -7,20 +11,21 @@ returns c =
     let c3 = c .before .before .before in
     rw (c3 .enum-told .given .1, c .before .enum-told2 .given .1) (c .decide-fallback .ensures)
 
+returns-2 : tie.Need-returns-2
+returns-2 c =
+    let a = c .before .before .before .before .before .args in
+    rests (a .b) (a .u) _ _ _ (λ e. miss (0 ∷ 2 ∷ []) 1 tt (rw e at (c .match2 .keys2))) (c .before .enum-told .given .1)
+
+returns-3 : tie.Need-returns-3
+returns-3 c =
+    let c3 = c .before .before .before in
+    rw (c3 .enum-told3 .given .1, c .before .enum-told4 .given .1) (c .decide-closing .ensures)
+
 returns-4 : tie.Need-returns-4
 returns-4 c =
-    let c3 = c .before .before .before in
-    rw (c3 .enum-told5 .given .1, c .before .enum-told6 .given .1) (c .decide-closing .ensures)
-
-returns-5 : tie.Need-returns-5
-returns-5 c =
-    let c3 = c .before .before .before in
-    rw (c3 .enum-told5 .given .1, c .before .enum-told7 .given .1) (c .decide-update .ensures)
-
-returns-6 : tie.Need-returns-6
-returns-6 c =
-    let c3 = c .before .before .before in
-    rw (c3 .enum-told5 .given .1, c .before .enum-told8 .given .1) (c .decide-update2 .ensures)
+    let a = c .before .before .before .before .before .before .args in
+    c .decide-update .ensures
+    ∙ armed-update (a .b) (a .u) _ _ _ (λ e. miss (0 ∷ 2 ∷ []) 1 tt (rw e at (c .before .match3 .keys2))) (c .before .before .enum-told3 .given .1)
 
 pub decide-by-spec : {M : Type 1} → statement M
 decide-by-spec =
@@ -31,16 +36,9 @@ decide-by-spec =
     (λ c κs. search needs)
     (λ c. search needs)
     (λ c. search needs)
-    (λ c. search needs)
-    (λ c. search needs)
     (λ c κs. search needs)
-    (λ c. search needs)
-    (λ c κs. search needs)
-    (λ c. search needs)
     (λ c κs. search needs)
     returns
-    (λ c. search needs)
-    (λ c. search needs)
-    returns-4
-    returns-5
-    returns-6)
+    returns-2
+    returns-3
+    returns-4)
