@@ -24,14 +24,14 @@ use Rattle.delivered.proofs.Delivered.{reads-firmware, as-ruled, at}
 
 -- ---- an answer of the code for what the rules have, where they refuse with 1 alone and have no reason
 
-abbrev coded : rules.Outcome → Outcome
+abbrev pub coded : rules.Outcome → Outcome
 coded (refusal r) = Refused OutsideRules
 coded cut = Cut
 coded runs = Run
 coded runsOnTest = RunOnTest
 coded runsFallenBack = RunFallenBack
 
-abbrev gave : PowerUp → Gave
+abbrev pub gave : PowerUp → Gave
 gave p = record { answer = record { outcome = coded (p .outcome); reason = None; count = p .count }; flash = p .flash }
 
 abbrev Codable : rules.Outcome → Type 0
@@ -52,7 +52,7 @@ module _ (x : Exchange) (g : Geometry) (old f : Flash) (a : ℕ) (o : Ongoing ch
   unfolding left
   answers g′ budget = demand-3-ongoing checkOf x g old f a (reads-firmware g) o (untorn g′ budget ∷ []) ((not, tt), tt) .each .0 .answers
 
-  gives-it : (g′ : Geometry) (budget : ℕ)
+  pub gives-it : (g′ : Geometry) (budget : ℕ)
       → let p = powerUp checkOf g′ f budget in Delivers (g′ .sectors) (g′ .size) f budget ((gave p) .answer) ((gave p) .flash)
   gives-it g′ budget = by (answers g′ budget)
     where

@@ -79,7 +79,7 @@ pub data Stepped (D : List ℕ → List ℕ → Type 0) (g : Geometry) (old : Fl
 
 -- ---- the next operation
 
-at-leg-next : (p i : ℕ) (leg : Leg) (last : Operation) → exchangeNext p (atLeg i leg) last ≡ Do (legOperation leg p (sectorNumber i))
+pub at-leg-next : (p i : ℕ) (leg : Leg) (last : Operation) → exchangeNext p (atLeg i leg) last ≡ Do (legOperation leg p (sectorNumber i))
 at-leg-next p zero UpdateToSwap last = refl
 at-leg-next p zero BootToUpdate last = refl
 at-leg-next p zero SwapToBoot last = refl

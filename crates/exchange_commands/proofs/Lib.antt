@@ -1,4 +1,4 @@
 -- The laws that the proofs of this crate cite.
 -- The statuses, as the code reads them; each call by its first check
 mod Readings
-mod Calls
+pub mod Calls

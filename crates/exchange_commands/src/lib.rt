@@ -26,7 +26,7 @@ pub enum CommandAnswer {
 // ---- the commands
 
 // What can be commanded. The functions below say of each its checks and its operations.
-enum CommandKind {
+pub enum CommandKind {
     Arm,
     Confirm,
 }
@@ -34,7 +34,7 @@ enum CommandKind {
 // ---- the checks before the operations
 
 // Whether a command may do its operations.
-enum Permit {
+pub enum Permit {
     Granted,
     Denied(CommandRefusal),
 }
@@ -99,7 +99,7 @@ fn permit_by(
 }
 
 // The checks of a command that come after the lengths.
-fn decide(kind: CommandKind, g: Geometry, boot: &[u8], update: &[u8]) -> Permit
+pub fn decide(kind: CommandKind, g: Geometry, boot: &[u8], update: &[u8]) -> Permit
     requires { ⌜ (Partition g (now boot)) × (Partition g (now update)) ⌝ }
     ensures { λ r. ⌜ permitOf r ≡ permitAt kind g (now (boot .entry)) (now (update .entry)) ⌝ }
 {

@@ -1,5 +1,5 @@
 -- The laws that the proofs of this crate cite.
 -- The sector of the next operation; a step, with what it carries on; the loop of steps
-mod Bounds
+pub mod Bounds
 mod Steps
-mod Runs
+pub mod Runs

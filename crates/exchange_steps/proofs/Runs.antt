@@ -43,11 +43,11 @@ module _ (job : Job) (g : Geometry) (budget : ℕ) where
       (ap (λ (x : Progress). runLeft job g budget x f) e ∙ ap (λ (k : ℕ). record { count = k; phase = w .phase; flash = w .flash }) z, rw e (omega arith))
 
   module _ (at : Progress) (f f′ : Flash) (r : StepAnswer) (s : stepped r f′ ≡ step job g (at .phase) f) where
-    next-is : r .next ≡ nextOperation job g (at .phase) f
+    pub next-is : r .next ≡ nextOperation job g (at .phase) f
     unfolding step
     next-is = ap (λ (x : Step). x .next) s
 
-    flash-is : f′ ≡ performNext g (r .next) f
+    pub flash-is : f′ ≡ performNext g (r .next) f
     unfolding step
     flash-is = ap (λ (x : Step). x .flash) s ∙ ap (λ (m : Next). performNext g m f) (sym next-is)
 

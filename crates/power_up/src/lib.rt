@@ -41,7 +41,7 @@ pub struct PowerUpAnswer {
 }
 
 // An answer without operations.
-fn idle(outcome: Outcome) -> PowerUpAnswer
+pub fn idle(outcome: Outcome) -> PowerUpAnswer
     ensures { λ r. ⌜ r ≡ idleAnswer outcome ⌝ }
 {
     PowerUpAnswer {
@@ -52,7 +52,7 @@ fn idle(outcome: Outcome) -> PowerUpAnswer
 }
 
 // The outcome, or the refusal of a bad image in BOOT.
-fn if_boot_good(g: Geometry, outcome: Outcome, boot: &[u8]) -> Outcome
+pub fn if_boot_good(g: Geometry, outcome: Outcome, boot: &[u8]) -> Outcome
     requires { ⌜ Partition g (now boot) ⌝ }
     ensures { λ r. ⌜ outcomeOf r ≡ ifBootGood (outcomeOf outcome) (checkOf g (now (boot .entry))) ⌝ }
 {
@@ -74,7 +74,7 @@ fn done_outcome(job: Job) -> Outcome
 }
 
 // The outcome of a job whose steps have come this far: "cut" where one more is ordered.
-fn outcome_at(g: Geometry, job: Job, at: Progress, boot: &[u8], update: &[u8]) -> Outcome
+pub fn outcome_at(g: Geometry, job: Job, at: Progress, boot: &[u8], update: &[u8]) -> Outcome
     requires { ⌜ (Partition g (now boot)) × (Partition g (now update)) × (at .front .0 ≤ firmware g) ⌝ }
     ensures { λ r. ⌜ outcomeOf r
         ≡ outcomeBy (nextAt job g at (now (boot .entry)) (now (update .entry))) job (checkOf g (now (boot .entry))) ⌝ }
