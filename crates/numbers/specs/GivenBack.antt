@@ -16,6 +16,8 @@ use Rattle.numbers.specs.declared.CommandRefusal.{CommandRefusal}
 use Rattle.numbers.specs.declared.CommandRefusal.the-variants.{OutsideRules as CommandOutside, StatusNotAllowed as CommandStatus, FlagsMalformed as CommandFlags, WrongTime}
 use Rattle.numbers.specs.declared.MendRefusal.{MendRefusal}
 use Rattle.numbers.specs.declared.MendRefusal.the-variants.{OutsideRules as MendOutside, StatusNotAllowed as MendStatus, WrongTime as MendWrongTime, NoMarkFits}
+use Rattle.numbers.specs.declared.RowRefusal.{RowRefusal}
+use Rattle.numbers.specs.declared.RowRefusal.the-variants.{TotalWrong, CountTooHigh}
 use Rattle.numbers.specs.declared.SheetOutcome.{SheetOutcome}
 use Rattle.numbers.specs.declared.SheetOutcome.the-variants.{Accepted as SheetAccepted, NotUnderstood, UnknownName, BadValue, RepeatedName, MissingName}
 use Rattle.numbers.specs.declared.Refused.{Refused}
@@ -130,6 +132,13 @@ mendNumber MendOutside = 1
 mendNumber MendStatus = 10
 mendNumber MendWrongTime = 14
 mendNumber NoMarkFits = 17
+
+-- ---- a row of erase counts: 19, 20
+
+-- Document 02's refusals of a counted call; their place is 0. 19: the total is wrong. 20: some count is too high.
+abbrev pub rowNumber : RowRefusal → ℕ
+rowNumber TotalWrong = 19
+rowNumber CountTooHigh = 20
 
 -- ---- a release sheet: 101 to 105, which are no numbers of 01
 

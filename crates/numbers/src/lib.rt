@@ -1,7 +1,7 @@
 // What the calls of document 01 answer, and for each answer the number and the place of its table "Numbers given back".
 ghost use mathlib.Core.Path.{_≡_};
 ghost use Rattle.numbers.specs.GivenBack.{refusedAt, refusalOf, headerSays, writerAnswer, imageSays};
-ghost use Rattle.numbers.specs.GivenBack.{powerUpSays, threeNumbers, reasonOf, reasonRefusal, commandNumber, mendNumber, sheetSays};
+ghost use Rattle.numbers.specs.GivenBack.{powerUpSays, threeNumbers, reasonOf, reasonRefusal, commandNumber, mendNumber, rowNumber, sheetSays};
 
 // ---- the answers
 
@@ -76,6 +76,14 @@ pub enum MendRefusal {
     StatusNotAllowed,
     WrongTime,
     NoMarkFits,
+}
+
+// Why a row of erase counts or its total is refused.
+pub enum RowRefusal {
+    // The total is not the row's sum.
+    TotalWrong,
+    // Some count has no room for as many erases as there are firmware sectors.
+    CountTooHigh,
 }
 
 // What a release sheet is: accepted, or refused, with the number of its line, counted from 1.
@@ -200,6 +208,15 @@ pub fn of_mend(r: MendRefusal) -> u32
         MendRefusal::StatusNotAllowed => 10,
         MendRefusal::WrongTime => 14,
         MendRefusal::NoMarkFits => 17,
+    }
+}
+
+pub fn of_row(r: RowRefusal) -> u32
+    ensures { λ n. ⌜ n ≡ rowNumber r ⌝ }
+{
+    match r {
+        RowRefusal::TotalWrong => 19,
+        RowRefusal::CountTooHigh => 20,
     }
 }
 

@@ -31,6 +31,12 @@ use Rattle.power_up.specs.declared.PowerUpAnswer.{PowerUpAnswer}
 use Rattle.power_up.specs.Delivered.{outcomeOf, answered}
 use Rattle.exchange_commands.specs.declared.CommandAnswer.{CommandAnswer}
 use Rattle.exchange_commands.specs.Numbers.{commandOf, commanded}
+use Rattle.counts.specs.Calls.{countedArm}
+use Rattle.counts_power_up.specs.declared.CountedAnswer.{CountedAnswer}
+use Rattle.counts_power_up.specs.Delivered.{countedOutcomeOf, CountedDelivers}
+use Rattle.counts_arm.specs.declared.CountedArmAnswer.{CountedArmAnswer}
+use Rattle.counts_arm.specs.Delivered.{countedCommandOf, countedCommanded}
+use Rattle.c_counts.specs.Rows.{countedPowerRow}
 use Rattle.header_tags.specs.Walk.{Item, walkAt, placeBehind}
 use Rattle.numbers.specs.declared.Refused.{Refused}
 use Rattle.mend.specs.declared.MendAnswer.{MendAnswer}
@@ -44,6 +50,7 @@ use Rattle.tainhosa.specs.Headers.{afterHeader, given, laidOut, readAnsw
 use Rattle.tainhosa.specs.Releases.{sheetRead}
 use Rattle.tainhosa.specs.Walking.{afterTag, tagAnswer}
 use Rattle.tainhosa.specs.Loading.{afterCall, poweredUp, powerUpAnswer, obeyed, commandAnswer, mendedBy, mendAnswer}
+use Rattle.tainhosa.specs.Loading.{afterCounted, countedPoweredUp, countedPowerUpAnswer, countedObeyed, countedArmAnswer}
 
 -- a header's values in buffers of their lengths
 pub laid : (n b n′ b′ : List ℕ) (x : Refused) (v : Header) → length n ≡ 6 → length b ≡ 128 → n′ ≡ headerNumbers (x .place) v → b′ ≡ bytesOf v
@@ -126,3 +133,17 @@ module _ (f f′ : Flash) (row row′ : List ℕ) where
 pub mended-on : (n s : ℕ) (f : Flash) (u row row′ : List ℕ) (a : MendAnswer) (x : ℕ) → length row ≡ 3 → MendDelivers n s f a u
     → x ≡ refusalOf (mendOf a) .number → row′ ≡ mendRow (n - 1) (mendOf a) → afterCall x row′ (flash (f .boot) u (f .swap)) ≡ mendAnswer n s f row
 mended-on n s f u row row′ a x h e ex er = rw (eq-eqb (length row) 3 h, er, ex) (ap (mendedBy n) e)
+
+-- ---- the counted calls
+
+module _ (f f′ : Flash) (counts counts′ numbers numbers′ : List ℕ) (n s total : ℕ) where
+  pub counted-up : (budget : ℕ) (r : CountedAnswer) (e : Ended) (why : Refused) → length numbers ≡ 7
+      → CountedDelivers n s f budget counts total r f′ counts′ → e ≡ endedOf (countedOutcomeOf (r .outcome))
+      → why ≡ reasonRefusal (reasonOf (r .reason)) → numbers′ ≡ countedPowerRow e (r .count) why (r .total)
+      → afterCounted (e .number) numbers′ counts′ f′ ≡ countedPowerUpAnswer n s f budget counts total numbers
+  counted-up budget r e why h p ee ew er = rw (eq-eqb (length numbers) 7 h, er, ee, ew) (ap countedPoweredUp p)
+
+  pub counted-armed : (r : CountedArmAnswer) (x k : ℕ) → length numbers ≡ 2 → countedCommanded r f′ counts′ ≡ countedArm (geometry n s) f counts total
+      → x ≡ refusalOf (countedCommandOf (r .answer)) .number → k ≡ countOf (countedCommandOf (r .answer)) → numbers′ ≡ k ∷ r .total ∷ []
+      → afterCounted x numbers′ counts′ f′ ≡ countedArmAnswer n s f counts total numbers
+  counted-armed r x k h p ex ek er = rw (eq-eqb (length numbers) 2 h, er, ex, ek) (ap countedObeyed p)

@@ -1,4 +1,4 @@
--- What a C caller of `tainhosa_power_up`, `tainhosa_arm`, `tainhosa_confirm` and `tainhosa_mend` gets.
+-- What a C caller of `tainhosa_power_up`, `tainhosa_arm`, `tainhosa_confirm`, `tainhosa_mend` and the two counted calls gets.
 use Prim.Native.Nat.{ℕ, _-_}
 use mathlib.Core.Bool.{cond}
 use mathlib.Core.List.{List, [], _∷_}
@@ -13,6 +13,8 @@ use Rattle.numbers.specs.GivenBack.{refusalOf, reasonRefusal}
 use Rattle.mending.specs.Mending.{Mend, mending}
 use Rattle.c_mend.specs.Rows.{mendRow}
 use Rattle.c_power_up.specs.Outcomes.{endedOf, countOf, powerRow}
+use Rattle.counts.specs.Calls.{Counted, countedPowerUp, countedArm}
+use Rattle.c_counts.specs.Rows.{countedPowerRow, countedArmRow}
 
 -- ---- power-up
 
@@ -67,3 +69,35 @@ mendedBy n r = afterCall (refusalOf (r .answer) .number) (mendRow (n - 1) (r .an
 -- "Mend lost flags": asked for n sectors of s bytes, on the flash f. Its row has 3 numbers.
 abbrev pub mendAnswer : ℕ → ℕ → Flash → List ℕ → Loaded
 mendAnswer n s f row = cond (eqb (length row) 3) (mendedBy n (mending checkOf (geometry n s) f)) (wrongRow row f)
+
+-- ---- the counted calls
+
+-- The answer, and the caller's numbers, row of counts and flash as the call returns.
+pub record CountedLoaded : Type 0 where
+  pub answer : ℕ
+  pub numbers : List ℕ
+  pub counts : List ℕ
+  pub flash : Flash
+
+abbrev pub afterCounted : ℕ → List ℕ → List ℕ → Flash → CountedLoaded
+afterCounted r numbers counts f = record { answer = r; numbers = numbers; counts = counts; flash = f }
+
+-- What the library's counted power-up, and its counted arm, answers and leaves.
+abbrev pub countedPoweredUp : Counted PowerUp → CountedLoaded
+countedPoweredUp c =
+    let e = endedOf (c .own .outcome) in
+    afterCounted (e .number) (countedPowerRow e (c .own .count) (reasonRefusal (c .own .reason)) (c .total)) (c .row) (c .own .flash)
+
+abbrev pub countedObeyed : Counted Command → CountedLoaded
+countedObeyed c = afterCounted (refusalOf (c .own .answer) .number) (countedArmRow (c .own .answer) (c .total)) (c .row) (c .own .flash)
+
+-- "Erase counts": asked for n sectors of s bytes, on the flash f, with a budget, the counts and their total. The numbers of a power-up are 7;
+-- of another length they are 1, before anything else, and all stays as it was.
+abbrev pub countedPowerUpAnswer : ℕ → ℕ → Flash → ℕ → List ℕ → ℕ → List ℕ → CountedLoaded
+countedPowerUpAnswer n s f budget counts total numbers =
+    cond (eqb (length numbers) 7) (countedPoweredUp (countedPowerUp checkOf (geometry n s) f budget counts total)) (afterCounted 1 numbers counts f)
+
+-- The same of arm, whose numbers are 2.
+abbrev pub countedArmAnswer : ℕ → ℕ → Flash → List ℕ → ℕ → List ℕ → CountedLoaded
+countedArmAnswer n s f counts total numbers =
+    cond (eqb (length numbers) 2) (countedObeyed (countedArm (geometry n s) f counts total)) (afterCounted 1 numbers counts f)

@@ -13,6 +13,7 @@ ghost use Rattle.tainhosa.specs.Headers.{afterHeader, given, readAnswer,
 ghost use Rattle.tainhosa.specs.Releases.{sheetRead, statedFrom, makeAnswer};
 ghost use Rattle.tainhosa.specs.Walking.{afterTag, tagAnswer};
 ghost use Rattle.tainhosa.specs.Loading.{afterCall, powerUpAnswer, armAnswer, confirmAnswer, mendAnswer};
+ghost use Rattle.tainhosa.specs.Loading.{afterCounted, countedPowerUpAnswer, countedArmAnswer};
 
 // How many numbers and bytes a header's values are.
 const HEADER_NUMBERS: usize = 6;
@@ -36,6 +37,10 @@ const POWER_UP_NUMBERS: usize = 6;
 const COMMAND_NUMBERS: usize = 1;
 
 const MEND_NUMBERS: usize = 3;
+
+const COUNTED_NUMBERS: usize = 7;
+
+const COUNTED_COMMAND_NUMBERS: usize = 2;
 
 // A length outside the rules.
 const WRONG_LENGTH: u32 = 1;
@@ -340,4 +345,76 @@ pub extern "C" fn tainhosa_mend<'a>(
     let row = c_mend::row_of(sectors, a);
     c_headers::put_numbers(numbers, &row);
     c_mend::of_mend(a)
+}
+
+// A power-up with at most `budget` operations that counts its erases: the row is BOOT's sectors, UPDATE's, SWAP.
+#[no_mangle]
+pub extern "C" fn tainhosa_power_up_counted(
+    sectors: usize,
+    size: usize,
+    boot: &mut [u8],
+    update: &mut [u8],
+    swap: &mut [u8],
+    budget: u64,
+    row: &mut [u32],
+    total: u64,
+    answer: &mut [u64],
+) -> u32
+    ensures { λ r. ⌜ afterCounted r (now (answer .exit)) (now (row .exit)) (lent (boot .exit) (update .exit) (swap .exit))
+        ≡ countedPowerUpAnswer sectors size (lent (boot .entry) (update .entry) (swap .entry)) budget (now (row .entry)) total
+        (now (answer .entry)) ⌝ }
+{
+    if answer.len() != COUNTED_NUMBERS {
+        return WRONG_LENGTH;
+    }
+    let a = counts_power_up::power_up_counted(
+        sectors,
+        size,
+        boot,
+        update,
+        swap,
+        budget,
+        row,
+        total,
+    );
+    let outcome = a.outcome;
+    let reason = a.reason;
+    let ended = c_counts::of_counted(outcome);
+    let why = numbers::of_reason(reason);
+    let numbers = [
+        ended.outcome,
+        a.count,
+        ended.inner,
+        ended.place,
+        why.number as u64,
+        why.place as u64,
+        a.total,
+    ];
+    c_headers::put_numbers(answer, &numbers);
+    ended.number
+}
+
+// Arms the update that stands in UPDATE, and counts the erase.
+#[no_mangle]
+pub extern "C" fn tainhosa_arm_counted(
+    sectors: usize,
+    size: usize,
+    boot: &mut [u8],
+    update: &mut [u8],
+    swap: &mut [u8],
+    row: &mut [u32],
+    total: u64,
+    answer: &mut [u64],
+) -> u32
+    ensures { λ r. ⌜ afterCounted r (now (answer .exit)) (now (row .exit)) (lent (boot .exit) (update .exit) (swap .exit))
+        ≡ countedArmAnswer sectors size (lent (boot .entry) (update .entry) (swap .entry)) (now (row .entry)) total (now (answer .entry)) ⌝ }
+{
+    if answer.len() != COUNTED_COMMAND_NUMBERS {
+        return WRONG_LENGTH;
+    }
+    let a = counts_arm::arm_counted(sectors, size, boot, update, swap, row, total);
+    let command = a.answer;
+    let numbers = [c_counts::count_of(command), a.total];
+    c_headers::put_numbers(answer, &numbers);
+    c_counts::of_command(command)
 }

@@ -1,0 +1,3 @@
+-- The counted arm: what it promises, and what its own functions answer.
+pub mod Delivered
+pub mod Inner

@@ -1,0 +1,3 @@
+-- The laws that the proofs of this crate cite.
+-- The row beside the steps that are left
+mod Counting
