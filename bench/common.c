@@ -57,6 +57,13 @@ void print_row(const char *what, const char *unit, int digits, double ours, doub
     printf("| %-40s | %12s | %12s | %5.2f |\n", what, a, b, ours / other);
 }
 
+void print_more(const char *what, double ours, double other)
+{
+    char a[32];
+    snprintf(a, sizeof a, "%+.2f %%", (ours / other - 1) * 100);
+    printf("| %-40s | %12s | %12s | %5s |\n", what, a, "", "");
+}
+
 void print_bytes(const char *what, long bytes)
 {
     char a[32];

@@ -16,6 +16,9 @@ void best_seconds(action *const *sides, int count, action *prepare, double *best
 /* A row: ours, the other side, and ours divided by the other. */
 void print_row(const char *what, const char *unit, int digits, double ours, double other);
 
+/* A row: how much more ours is than the other, in percent. */
+void print_more(const char *what, double ours, double other);
+
 /* A row with no other side. */
 void print_bytes(const char *what, long bytes);
 

@@ -24,7 +24,8 @@ enum { MEND_SIZE = 512, MEND_SECTORS = 8 };
 static uint8_t stack[STACK];
 static ucontext_t here, there;
 static uint8_t boot[LENGTH], update[LENGTH], swap[SIZE], header[TAINHOSA_HEADER_LENGTH];
-static uint64_t numbers[6];
+static uint64_t numbers[TAINHOSA_COUNTED_NUMBERS], total;
+static uint32_t row[TAINHOSA_ROW_LENGTH(SECTORS)];
 static uint8_t bytes[128], digest[32];
 static char sheet[512];
 static uint32_t answer;
@@ -99,6 +100,20 @@ static void mend(void)
                            TAINHOSA_MEND_NUMBERS);
 }
 
+static void power_up_counted(void)
+{
+    answer = tainhosa_power_up_counted(SECTORS, SIZE, boot, LENGTH, update, LENGTH, swap, SIZE, UINT64_MAX, row,
+                                       TAINHOSA_ROW_LENGTH(SECTORS), total, numbers, TAINHOSA_COUNTED_NUMBERS);
+    total = numbers[TAINHOSA_COUNTED_TOTAL];
+}
+
+static void arm_counted(void)
+{
+    answer = tainhosa_arm_counted(SECTORS, SIZE, boot, LENGTH, update, LENGTH, swap, SIZE, row, TAINHOSA_ROW_LENGTH(SECTORS), total,
+                                  numbers, TAINHOSA_COUNTED_COMMAND_NUMBERS);
+    total = numbers[TAINHOSA_COUNTED_COMMAND_TOTAL];
+}
+
 static void check_firmware(void)
 {
     answer = tainhosa_check_firmware(boot, LENGTH - SIZE, numbers, 6, bytes, 128);
@@ -128,7 +143,8 @@ static void make_sheet(void)
 
 /* ---- What each took */
 
-enum { READ_HEADER, CHECK_IMAGE, POWER_UP, ARM, CONFIRM, SHA256, WRITE_HEADER, NEXT_TAG, CHECK_FIRMWARE, READ_SHEET, MAKE_HEADER, MEND, CALLS };
+enum { READ_HEADER, CHECK_IMAGE, POWER_UP, ARM, CONFIRM, SHA256, WRITE_HEADER, NEXT_TAG, CHECK_FIRMWARE, READ_SHEET, MAKE_HEADER, MEND,
+       POWER_UP_COUNTED, ARM_COUNTED, CALLS };
 
 enum { WRITTEN, PADDED, KINDS };
 
@@ -147,6 +163,7 @@ static const struct {
     {"tainhosa_write_header", write_header, BOARD}, {"tainhosa_next_tag", next_tag, BOARD},
     {"tainhosa_check_firmware", check_firmware, BOARD}, {"tainhosa_read_sheet", read_sheet, BOARD},
     {"tainhosa_make_header", make_header, BOARD},   {"tainhosa_mend", mend, BOARD},
+    {"tainhosa_power_up_counted", power_up_counted, BOARD}, {"tainhosa_arm_counted", arm_counted, BOARD},
 };
 
 static long most[KINDS][CALLS];
@@ -223,54 +240,72 @@ static void pad_header(uint8_t *p)
     memset(p + TAINHOSA_FIRST_TAG, TAINHOSA_PADDING, TAINHOSA_HEADER_LENGTH - TAINHOSA_FIRST_TAG);
 }
 
-/* Plain, an update, a fallback, an update that is kept, one that is turned down, and a digest that is wrong. */
-static void take_images(void)
+/* Plain, an update, a fallback, an update that is kept, one that is turned down, and a digest that is wrong; by these calls, which count
+   erases or not. */
+static void take_images(int power_up_call, int arm_call)
 {
     make(boot, LENGTH, SIZE, 1);
     make(update, LENGTH, SIZE, 2);
     boot[STATUS] = TAINHOSA_STATUS_SUCCESS;
     take(CHECK_IMAGE, TAINHOSA_OK);
     take(CHECK_FIRMWARE, TAINHOSA_OK);
-    take(POWER_UP, TAINHOSA_OK);
+    take(power_up_call, TAINHOSA_OK);
     expect_outcome(TAINHOSA_RUN);
-    take(ARM, TAINHOSA_OK);
-    take(POWER_UP, TAINHOSA_OK);
+    take(arm_call, TAINHOSA_OK);
+    take(power_up_call, TAINHOSA_OK);
     expect_outcome(TAINHOSA_RUN_ON_TEST);
-    take(POWER_UP, TAINHOSA_OK);
+    take(power_up_call, TAINHOSA_OK);
     expect_outcome(TAINHOSA_RUN_FALLEN_BACK);
     make(update, LENGTH, SIZE, 2);
-    take(ARM, TAINHOSA_OK);
-    take(POWER_UP, TAINHOSA_OK);
+    take(arm_call, TAINHOSA_OK);
+    take(power_up_call, TAINHOSA_OK);
     expect_outcome(TAINHOSA_RUN_ON_TEST);
     take(CONFIRM, TAINHOSA_OK);
     make(update, LENGTH, SIZE, 1);
-    take(ARM, TAINHOSA_OK);
-    take(POWER_UP, TAINHOSA_OK);
+    take(arm_call, TAINHOSA_OK);
+    take(power_up_call, TAINHOSA_OK);
     expect_outcome(TAINHOSA_RUN);
     boot[TAINHOSA_HEADER_LENGTH] ^= 1;
     take(CHECK_IMAGE, TAINHOSA_WRONG_DIGEST);
     take(CHECK_FIRMWARE, TAINHOSA_WRONG_DIGEST);
-    take(POWER_UP, TAINHOSA_BAD_BOOT);
+    take(power_up_call, TAINHOSA_BAD_BOOT);
     take(CONFIRM, TAINHOSA_WRONG_TIME);
     boot[TAINHOSA_HEADER_LENGTH] ^= 1;
 }
 
-/* Padding: in UPDATE when armed, in BOOT, and in UPDATE when a fallback is due. */
-static void take_padded_images(void)
+/* Counts that are refused: the total is wrong, a count is too high. */
+static void take_refused_counts(void)
 {
+    total++;
+    take(POWER_UP_COUNTED, TAINHOSA_WRONG_TOTAL);
+    take(ARM_COUNTED, TAINHOSA_WRONG_TOTAL);
+    memset(row, 0, sizeof row);
+    row[TAINHOSA_ROW_SWAP(SECTORS)] = UINT32_MAX;
+    total = UINT32_MAX;
+    take(POWER_UP_COUNTED, TAINHOSA_COUNT_TOO_HIGH);
+    take(ARM_COUNTED, TAINHOSA_COUNT_TOO_HIGH);
+    row[TAINHOSA_ROW_SWAP(SECTORS)] = 0;
+    total = 0;
+}
+
+/* Padding: in UPDATE when armed, in BOOT, and in UPDATE when a fallback is due. */
+static void take_padded_images(int power_up_call)
+{
+    make(boot, LENGTH, SIZE, 1);
+    boot[STATUS] = TAINHOSA_STATUS_SUCCESS;
     make(update, LENGTH, SIZE, 3);
     pad_header(update);
     if (tainhosa_arm(SECTORS, SIZE, boot, LENGTH, update, LENGTH, swap, SIZE, numbers, 1) != TAINHOSA_OK) {
         fail("tainhosa_arm refused");
     }
-    take(POWER_UP, TAINHOSA_OK);
+    take(power_up_call, TAINHOSA_OK);
     expect_outcome(TAINHOSA_RUN);
     boot[STATUS] = TAINHOSA_STATUS_TESTING;
-    take(POWER_UP, TAINHOSA_NO_FALLBACK);
+    take(power_up_call, TAINHOSA_NO_FALLBACK);
     boot[STATUS] = TAINHOSA_STATUS_SUCCESS;
     pad_header(boot);
     take(CHECK_IMAGE, TAINHOSA_NO_END);
-    take(POWER_UP, TAINHOSA_BAD_BOOT);
+    take(power_up_call, TAINHOSA_BAD_BOOT);
 }
 
 /* ---- Lost flags */
@@ -355,8 +390,10 @@ int main(void)
     }
     for (size_t i = 0; i < sizeof shapes / sizeof shapes[0]; i++) {
         shape = shapes[i];
-        take_images();
+        take_images(POWER_UP, ARM);
+        take_images(POWER_UP_COUNTED, ARM_COUNTED);
     }
+    take_refused_counts();
     for (size_t i = 0; i < sizeof mend_shapes / sizeof mend_shapes[0]; i++) {
         shape = mend_shapes[i];
         set_mend_sectors(i == 0 ? SECTORS : MEND_SECTORS);
@@ -368,9 +405,8 @@ int main(void)
     pad_header(header);
     take(READ_HEADER, TAINHOSA_NO_END);
     take(NEXT_TAG, TAINHOSA_NO_END);
-    make(boot, LENGTH, SIZE, 1);
-    boot[STATUS] = TAINHOSA_STATUS_SUCCESS;
-    take_padded_images();
+    take_padded_images(POWER_UP);
+    take_padded_images(POWER_UP_COUNTED);
     set_mend_sectors(SECTORS);
     take_padded_mends();
 

@@ -1,8 +1,9 @@
 /*
  * One update, armed before: tainhosa_power_up beside plain C that does the same checks, erases, copies and writes, in the same
  * buffers, and scans nothing. The firmware fills its sectors; once more with one byte of firmware, so that the exchange is nearly all that
- * is left. Fails if the two leave another flash. With two words, the sectors of a partition and the bytes of a sector, it is done once and
- * by the library alone, for a program that counts its instructions.
+ * is left. Then tainhosa_power_up_counted beside tainhosa_power_up, and how much more time it takes. Fails if two sides leave another
+ * flash. With two words, the sectors of a partition and the bytes of a sector, it is done once and by the library alone, for a program that
+ * counts its instructions.
  */
 #include <stdio.h>
 #include <stdlib.h>
@@ -15,7 +16,8 @@
 static size_t sectors, size, length;
 static uint8_t *boot, *update, *swap;
 static uint8_t *first_boot, *first_update, *first_swap;
-static uint64_t answer[6];
+static uint64_t answer[TAINHOSA_COUNTED_NUMBERS];
+static uint32_t row[TAINHOSA_ROW_LENGTH_MAX];
 
 /* ---- Plain C */
 
@@ -74,6 +76,18 @@ static void run_ours(void)
     }
 }
 
+/* From counts of 0 on. */
+static void run_counted(void)
+{
+    const size_t counts = TAINHOSA_ROW_LENGTH(sectors);
+    memset(row, 0, counts * sizeof row[0]);
+    if (tainhosa_power_up_counted(sectors, size, boot, length, update, length, swap, size, UINT64_MAX, row, counts, 0, answer,
+                                  TAINHOSA_COUNTED_NUMBERS) != TAINHOSA_OK ||
+        answer[TAINHOSA_POWER_UP_OUTCOME] != TAINHOSA_RUN_ON_TEST) {
+        fail("the counted update failed");
+    }
+}
+
 /* ---- Both */
 
 static void restore(void)
@@ -83,16 +97,16 @@ static void restore(void)
     memcpy(swap, first_swap, size);
 }
 
-static void compare(void)
+static void compare(action *one, action *other)
 {
     uint8_t *done = room_for(2 * length + size);
     restore();
-    run_ours();
+    one();
     memcpy(done, boot, length);
     memcpy(done + length, update, length);
     memcpy(done + 2 * length, swap, size);
     restore();
-    run_plain();
+    other();
     if (memcmp(done, boot, length) != 0 || memcmp(done + length, update, length) != 0 ||
         memcmp(done + 2 * length, swap, size) != 0) {
         fail("two updates leave another flash");
@@ -123,11 +137,9 @@ static void prepare(size_t n, size_t s, bool filled)
     }
 }
 
-static void measure(size_t n, size_t s, bool each, bool filled)
+/* The same, and a copy of it to begin each run with. */
+static void prepare_runs(size_t n, size_t s, bool filled)
 {
-    action *const sides[] = {run_ours, run_plain};
-    double best[2];
-    char what[80];
     prepare(n, s, filled);
     first_boot = room_for(length);
     first_update = room_for(length);
@@ -135,7 +147,25 @@ static void measure(size_t n, size_t s, bool each, bool filled)
     memcpy(first_boot, boot, length);
     memcpy(first_update, update, length);
     memcpy(first_swap, swap, size);
-    compare();
+}
+
+static void free_all(void)
+{
+    free(boot);
+    free(update);
+    free(swap);
+    free(first_boot);
+    free(first_update);
+    free(first_swap);
+}
+
+static void measure(size_t n, size_t s, bool each, bool filled)
+{
+    action *const sides[] = {run_ours, run_plain};
+    double best[2];
+    char what[80];
+    prepare_runs(n, s, filled);
+    compare(run_ours, run_plain);
     best_seconds(sides, 2, restore, best);
     snprintf(what, sizeof what, filled ? "update, %zu sectors of %zu KiB; plain C" : "%zu of %zu KiB, 1 B of firmware; plain C", n, s / 1024);
     print_row(what, "ms", 3, best[0] * 1e3, best[1] * 1e3);
@@ -143,12 +173,25 @@ static void measure(size_t n, size_t s, bool each, bool filled)
         snprintf(what, sizeof what, "update, for each of %zu firmware sectors", n - 1);
         print_row(what, "us", 1, best[0] * 1e6 / (double)(n - 1), best[1] * 1e6 / (double)(n - 1));
     }
-    free(boot);
-    free(update);
-    free(swap);
-    free(first_boot);
-    free(first_update);
-    free(first_swap);
+    free_all();
+}
+
+/* With the erases counted beside the same without: the time of both, and how much more the first one takes. */
+static void measure_counted(size_t n, size_t s)
+{
+    action *const sides[] = {run_counted, run_ours};
+    double best[2];
+    char what[80];
+    prepare_runs(n, s, true);
+    compare(run_ours, run_counted);
+    if (answer[TAINHOSA_COUNTED_TOTAL] != 3 * (n - 1) + 2) {
+        fail("the counted update counted another number of erases");
+    }
+    best_seconds(sides, 2, restore, best);
+    snprintf(what, sizeof what, "counted, %zu of %zu KiB; not counted", n, s / 1024);
+    print_row(what, "ms", 3, best[0] * 1e3, best[1] * 1e3);
+    print_more("counted, the time that it takes more", best[0], best[1]);
+    free_all();
 }
 
 int main(int words, char **word)
@@ -163,5 +206,6 @@ int main(int words, char **word)
         measure(n, 4096, true, true);
     }
     measure(TAINHOSA_SECTORS_MAX, 4096, false, false);
+    measure_counted(64, 4096);
     return 0;
 }

@@ -29,7 +29,7 @@ extern "C" {
 /* ---- The version of this interface, and its number: 10000 for each major, 100 for each minor */
 
 #define TAINHOSA_VERSION_MAJOR 0
-#define TAINHOSA_VERSION_MINOR 6
+#define TAINHOSA_VERSION_MINOR 7
 #define TAINHOSA_VERSION_PATCH 0
 #define TAINHOSA_VERSION_NUMBER (TAINHOSA_VERSION_MAJOR * 10000 + TAINHOSA_VERSION_MINOR * 100 + TAINHOSA_VERSION_PATCH)
 
@@ -61,6 +61,8 @@ extern "C" {
 #define TAINHOSA_SHORT_HEADER 16      /* fewer than 256 bytes to read or write a header; at 0 */
 #define TAINHOSA_NO_MARK_FITS 17      /* lost flags that can't be found: under none are both images good and the update newer */
 #define TAINHOSA_TAG_NOT_UNDERSTOOD 18 /* a tag that must be understood, and of a type that is not known */
+#define TAINHOSA_WRONG_TOTAL 19       /* a total that is not the sum of the erase counts */
+#define TAINHOSA_COUNT_TOO_HIGH 20    /* an erase count without room for the erases of a power-up */
 
 /* Of a release sheet; the line, counted from 1, stands for the place. */
 #define TAINHOSA_LINE_NOT_UNDERSTOOD 101 /* no space in it */
@@ -356,6 +358,56 @@ TAINHOSA_CALL uint32_t tainhosa_mend(size_t sectors, size_t size,
                                      const uint8_t *swap, size_t swap_length,
                                      uint64_t *numbers, size_t numbers_length);
 
+/* ---- Erase counts: a power-up and an arm that also count the erases, for the service sheet */
+
+/*
+ * A row of counts, one for each sector: BOOT's, UPDATE's, each with its trailer sector, and SWAP. The places of BOOT's sector i, of
+ * UPDATE's, and of SWAP. A new printer's are all 0, and their total is 0.
+ */
+#define TAINHOSA_ROW_LENGTH(sectors) (2 * (sectors) + 1)
+#define TAINHOSA_ROW_LENGTH_MAX 1025
+#define TAINHOSA_ROW_BOOT(i) (i)
+#define TAINHOSA_ROW_UPDATE(sectors, i) ((sectors) + (i))
+#define TAINHOSA_ROW_SWAP(sectors) (2 * (sectors))
+
+/* What a counted power-up answers: a row of 7, the 6 of a power-up and then the total that goes out. */
+#define TAINHOSA_COUNTED_NUMBERS 7
+#define TAINHOSA_COUNTED_TOTAL 6
+
+/*
+ * tainhosa_power_up with the erases counted. Beside the row and its total it does and answers the same.
+ * Each erase that is completed raises the count of its sector by one, also that of a trailer sector; nothing else changes the row. The
+ * total that comes in has to be the sum of the row, and answer[TAINHOSA_COUNTED_TOTAL] is the sum of the row as it is left: hand it in
+ * with the next call. Where power is lost, it is the caller's part that the row counts the erases that were completed, and no other; the
+ * total handed in next is then its sum.
+ * Refused with 1 (as a power-up, or the row has another length), 19 (the total is not the row's sum) or 20 (some count, of any sector,
+ * is greater than 4294967295 - (sectors - 1), so that it might not fit 32 bits in the end): flash and row stay as they were, the count
+ * is 0, and the total goes out as it came in. Then with what a power-up refuses behind 1: the total is the row's sum, and the erases
+ * before a 12 stay counted.
+ */
+TAINHOSA_CALL uint32_t tainhosa_power_up_counted(size_t sectors, size_t size,
+                                                 uint8_t *boot, size_t boot_length,
+                                                 uint8_t *update, size_t update_length,
+                                                 uint8_t *swap, size_t swap_length,
+                                                 uint64_t budget,
+                                                 uint32_t *row, size_t row_length, uint64_t total,
+                                                 uint64_t *answer, size_t answer_length);
+
+/* What a counted arm answers: a row of 2, the count of an arm and then the total that goes out. */
+#define TAINHOSA_COUNTED_COMMAND_NUMBERS 2
+#define TAINHOSA_COUNTED_COMMAND_TOTAL 1
+
+/*
+ * tainhosa_arm with its erase counted, that of UPDATE's trailer sector. Row and total are those of tainhosa_power_up_counted.
+ * Refused with 1, 19 or 20, as there, and then with 10 or 14: flash, row and total stay as they were.
+ */
+TAINHOSA_CALL uint32_t tainhosa_arm_counted(size_t sectors, size_t size,
+                                            uint8_t *boot, size_t boot_length,
+                                            uint8_t *update, size_t update_length,
+                                            uint8_t *swap, size_t swap_length,
+                                            uint32_t *row, size_t row_length, uint64_t total,
+                                            uint64_t *answer, size_t answer_length);
+
 /* ---- SHA-256 */
 
 /*
@@ -451,6 +503,15 @@ static inline void tainhosa_header_fill(struct tainhosa_header *header, const ui
     tainhosa_copy_bytes(header->hint, bytes + TAINHOSA_HINT_AT, TAINHOSA_HINT_BYTES);
 }
 
+static inline void tainhosa_power_up_fill(struct tainhosa_power_up_answer *answer, const uint64_t *numbers) {
+    answer->outcome = (uint32_t)numbers[TAINHOSA_POWER_UP_OUTCOME];
+    answer->count = numbers[TAINHOSA_POWER_UP_COUNT];
+    answer->inner = (uint32_t)numbers[TAINHOSA_POWER_UP_INNER];
+    answer->inner_place = numbers[TAINHOSA_POWER_UP_INNER_PLACE];
+    answer->reason = (uint32_t)numbers[TAINHOSA_POWER_UP_REASON];
+    answer->reason_place = numbers[TAINHOSA_POWER_UP_REASON_PLACE];
+}
+
 /* tainhosa_read_header */
 TAINHOSA_CALL static inline uint32_t tainhosa_header_read(const uint8_t *input, size_t input_length, struct tainhosa_header *header) {
     uint64_t numbers[TAINHOSA_HEADER_NUMBERS] = {0};
@@ -537,12 +598,7 @@ TAINHOSA_CALL static inline uint32_t tainhosa_flash_power_up(const struct tainho
     uint32_t refused = tainhosa_power_up(flash->sectors, flash->size, flash->boot, flash->boot_length,
                                          flash->update, flash->update_length, flash->swap, flash->swap_length,
                                          budget, numbers, TAINHOSA_POWER_UP_NUMBERS);
-    answer->outcome = (uint32_t)numbers[TAINHOSA_POWER_UP_OUTCOME];
-    answer->count = numbers[TAINHOSA_POWER_UP_COUNT];
-    answer->inner = (uint32_t)numbers[TAINHOSA_POWER_UP_INNER];
-    answer->inner_place = numbers[TAINHOSA_POWER_UP_INNER_PLACE];
-    answer->reason = (uint32_t)numbers[TAINHOSA_POWER_UP_REASON];
-    answer->reason_place = numbers[TAINHOSA_POWER_UP_REASON_PLACE];
+    tainhosa_power_up_fill(answer, numbers);
     return refused;
 }
 
@@ -567,6 +623,31 @@ TAINHOSA_CALL static inline uint32_t tainhosa_flash_mend(const struct tainhosa_f
     mended->flag = (uint8_t)numbers[TAINHOSA_MEND_FLAG];
     mended->changed = numbers[TAINHOSA_MEND_CHANGED];
     return answer;
+}
+
+/* tainhosa_power_up_counted; the total comes in and goes out in *total. */
+TAINHOSA_CALL static inline uint32_t tainhosa_flash_power_up_counted(const struct tainhosa_flash *flash, uint64_t budget,
+                                                                     uint32_t *row, size_t row_length, uint64_t *total,
+                                                                     struct tainhosa_power_up_answer *answer) {
+    uint64_t numbers[TAINHOSA_COUNTED_NUMBERS] = {0};
+    uint32_t refused = tainhosa_power_up_counted(flash->sectors, flash->size, flash->boot, flash->boot_length,
+                                                 flash->update, flash->update_length, flash->swap, flash->swap_length,
+                                                 budget, row, row_length, *total, numbers, TAINHOSA_COUNTED_NUMBERS);
+    tainhosa_power_up_fill(answer, numbers);
+    *total = numbers[TAINHOSA_COUNTED_TOTAL];
+    return refused;
+}
+
+/* tainhosa_arm_counted; the total comes in and goes out in *total. */
+TAINHOSA_CALL static inline uint32_t tainhosa_flash_arm_counted(const struct tainhosa_flash *flash, uint32_t *row, size_t row_length,
+                                                                uint64_t *total, uint64_t *count) {
+    uint64_t numbers[TAINHOSA_COUNTED_COMMAND_NUMBERS] = {0};
+    uint32_t refused = tainhosa_arm_counted(flash->sectors, flash->size, flash->boot, flash->boot_length, flash->update,
+                                            flash->update_length, flash->swap, flash->swap_length, row, row_length, *total,
+                                            numbers, TAINHOSA_COUNTED_COMMAND_NUMBERS);
+    *count = numbers[TAINHOSA_COMMAND_COUNT];
+    *total = numbers[TAINHOSA_COUNTED_COMMAND_TOTAL];
+    return refused;
 }
 
 #ifdef __cplusplus

@@ -1,5 +1,6 @@
-"""Document 01's rules for headers, images, status bytes, flags and power-up, document 02's for mending, for what the digest covers and for
-tags that must be understood, and the rules of the release sheet, once more: written from the papers, with no code of the library.
+"""Document 01's rules for headers, images, status bytes, flags and power-up, document 02's for mending, for what the digest covers, for
+tags that must be understood and for erase counts, and the rules of the release sheet, once more: written from the papers, with no code of
+the library.
 
 The scripts in this folder compare what the library's programs print with what this module says.
 """
@@ -405,3 +406,87 @@ def mend(n, s, boot, update, swap):
             left = f.partition("UPDATE")
             return sector, flag, sum(a != b for a, b in zip(update, left)), left
     raise Refused(17)
+
+
+# ---- erase counts (document 02, seven)
+
+MOST = 4294967295
+
+
+class CountedFlash(Flash):
+    """A flash that notes each sector which it erases, as it does."""
+
+    def __init__(self, *given):
+        super().__init__(*given)
+        self.erased = []
+
+    def perform(self, operation):
+        super().perform(operation)
+        if operation[0] == "erase":
+            self.erased.append(operation[1:3])
+
+
+def places(n):
+    """The sector that each place of the row is for."""
+    return [("BOOT", i) for i in range(n)] + [("UPDATE", i) for i in range(n)] + [("SWAP", 0)]
+
+
+def counted_flash(n, s, boot, update, swap, row, total):
+    """The flash, if no check of a counted call but the status bytes' has refused; these come last."""
+    if not geometry_fits(n, s) or [len(boot), len(update), len(swap)] != [n * s, n * s, s] or len(row) != 2 * n + 1:
+        raise Refused(1)
+    if total != sum(row):
+        raise Refused(19)
+    if max(row) > MOST - (n - 1):
+        raise Refused(20)
+    return CountedFlash(n, s, boot, update, swap)
+
+
+def row_after(f, row):
+    """The row with one more for each erase that was completed."""
+    return [count + f.erased.count(place) for place, count in zip(places(f.n), row)]
+
+
+def left_by(f, answer, row):
+    """What a counted call answers, the three areas, the row, and the total that goes out."""
+    row = row_after(f, row)
+    return answer, [f.partition(area) for area in ("BOOT", "UPDATE", "SWAP")], row, sum(row)
+
+
+def may_power_up(f):
+    """Refusals 10 and 11, which power_up takes for looked at."""
+    boot, update = f.status("BOOT"), f.status("UPDATE")
+    if boot not in STATUSES["BOOT"] or update not in STATUSES["UPDATE"]:
+        return 10
+    if update == 0x70 or boot == 0x10:
+        shown = flags(f.m, f.areas["UPDATE"][f.m])
+        if shown == "not well formed" or update == 0x70 and boot == 0x10 and shown != "all 0":
+            return 11
+    return None
+
+
+def power_up_counted(n, s, boot, update, swap, budget, row, total):
+    """power_up's answer (outcome, count, reason, next operation), the areas, the row and the total, as they are left."""
+    try:
+        f = counted_flash(n, s, boot, update, swap, row, total)
+    except Refused as refused:
+        return (f"refused {refused.number}", 0, None, None), [boot, update, swap], row, total
+    number = may_power_up(f)
+    if number:
+        return left_by(f, (f"refused {number}", 0, None, None), row)
+    return left_by(f, power_up(f, budget), row)
+
+
+def arm_counted(n, s, boot, update, swap, row, total):
+    """The number of the refusal, or 0, and the count; the areas, the row and the total, as they are left."""
+    try:
+        f = counted_flash(n, s, boot, update, swap, row, total)
+    except Refused as refused:
+        return (refused.number, 0), [boot, update, swap], row, total
+    if boot[-1] not in STATUSES["BOOT"] or update[-1] not in STATUSES["UPDATE"]:
+        return left_by(f, (10, 0), row)
+    if update[-1] != 0xFF or boot[-1] == 0x10:
+        return left_by(f, (14, 0), row)
+    for operation in (("erase", "UPDATE", f.m, None), ("status", "UPDATE", f.m, 0x70)):
+        f.perform(operation)
+    return left_by(f, (0, 2), row)

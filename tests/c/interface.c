@@ -151,9 +151,9 @@ static size_t put_image(uint8_t *to, int firmware, uint32_t version) {
 
 static void constants(void) {
     EQUAL(TAINHOSA_VERSION_MAJOR, 0);
-    EQUAL(TAINHOSA_VERSION_MINOR, 6);
+    EQUAL(TAINHOSA_VERSION_MINOR, 7);
     EQUAL(TAINHOSA_VERSION_PATCH, 0);
-    EQUAL(TAINHOSA_VERSION_NUMBER, 600);
+    EQUAL(TAINHOSA_VERSION_NUMBER, 700);
     EQUAL(TAINHOSA_OK, 0);
     EQUAL(TAINHOSA_OUTSIDE_RULES, 1);
     EQUAL(TAINHOSA_WRONG_MAGIC, 2);
@@ -173,6 +173,8 @@ static void constants(void) {
     EQUAL(TAINHOSA_SHORT_HEADER, 16);
     EQUAL(TAINHOSA_NO_MARK_FITS, 17);
     EQUAL(TAINHOSA_TAG_NOT_UNDERSTOOD, 18);
+    EQUAL(TAINHOSA_WRONG_TOTAL, 19);
+    EQUAL(TAINHOSA_COUNT_TOO_HIGH, 20);
     EQUAL(TAINHOSA_LINE_NOT_UNDERSTOOD, 101);
     EQUAL(TAINHOSA_NAME_NOT_KNOWN, 102);
     EQUAL(TAINHOSA_VALUE_NOT_ALLOWED, 103);
@@ -1342,6 +1344,225 @@ static void unused_half(void) {
     EVERY(one_update, 512, 1022, 0xFF);
 }
 
+/* ---- Erase counts, on the same three sectors: BOOT's three, UPDATE's three and SWAP */
+
+/* As high as a count may be there. */
+#define MOST 4294967293u
+
+static uint32_t counts[TAINHOSA_ROW_LENGTH(3)], old_counts[TAINHOSA_ROW_LENGTH(3)];
+static uint64_t total;
+
+static void put_counts(uint32_t b0, uint32_t b1, uint32_t b2, uint32_t u0, uint32_t u1, uint32_t u2, uint32_t s) {
+    const uint32_t all[TAINHOSA_ROW_LENGTH(3)] = {b0, b1, b2, u0, u1, u2, s};
+    size_t i;
+    memcpy(counts, all, sizeof counts);
+    total = 0;
+    for (i = 0; i < TAINHOSA_ROW_LENGTH(3); i++) {
+        total += counts[i];
+    }
+}
+
+/* The counts that are left, and that the total is their sum. */
+static void expect_counts(int line, uint32_t b0, uint32_t b1, uint32_t b2, uint32_t u0, uint32_t u1, uint32_t u2, uint32_t s) {
+    expect(line, "BOOT 0", counts[TAINHOSA_ROW_BOOT(0)], b0);
+    expect(line, "BOOT 1", counts[TAINHOSA_ROW_BOOT(1)], b1);
+    expect(line, "BOOT's trailer", counts[TAINHOSA_ROW_BOOT(2)], b2);
+    expect(line, "UPDATE 0", counts[TAINHOSA_ROW_UPDATE(3, 0)], u0);
+    expect(line, "UPDATE 1", counts[TAINHOSA_ROW_UPDATE(3, 1)], u1);
+    expect(line, "UPDATE's trailer", counts[TAINHOSA_ROW_UPDATE(3, 2)], u2);
+    expect(line, "SWAP", counts[TAINHOSA_ROW_SWAP(3)], s);
+    expect(line, "total", total, (uint64_t)b0 + b1 + b2 + u0 + u1 + u2 + s);
+}
+
+#define COUNTS(b0, b1, b2, u0, u1, u2, s) expect_counts(__LINE__, b0, b1, b2, u0, u1, u2, s)
+
+/* A counted power-up: its answer, its outcome and the operations. */
+static void count_power_up(int line, uint64_t budget, uint32_t number, uint32_t outcome, uint64_t count) {
+    struct tainhosa_power_up_answer answer;
+    memset(&answer, BEFORE, sizeof answer);
+    expect(line, "tainhosa_flash_power_up_counted", tainhosa_flash_power_up_counted(&flash, budget, counts, 7, &total, &answer), number);
+    expect(line, "outcome", answer.outcome, outcome);
+    expect(line, "count", answer.count, count);
+}
+
+#define COUNTED(budget, outcome, count) count_power_up(__LINE__, budget, TAINHOSA_OK, outcome, count)
+
+/* Both counted calls are refused, and nothing changes: neither a byte, nor a count, nor the total. */
+static void none_counted(int line, size_t row_length, uint32_t power_up_number, uint32_t arm_number, uint32_t inner) {
+    struct tainhosa_power_up_answer answer;
+    uint64_t count = BEFORE, before = total;
+    uint32_t number;
+    memset(&answer, BEFORE, sizeof answer);
+    remember();
+    memcpy(old_counts, counts, sizeof counts);
+    number = tainhosa_flash_power_up_counted(&flash, UINT64_MAX, counts, row_length, &total, &answer);
+    expect(line, "tainhosa_flash_power_up_counted", number, power_up_number);
+    expect(line, "outcome", answer.outcome, TAINHOSA_REFUSED);
+    expect(line, "count", answer.count, 0);
+    expect(line, "inner", answer.inner, inner);
+    expect(line, "reason", answer.reason, 0);
+    expect(line, "total", total, before);
+    expect(line, "tainhosa_flash_arm_counted", tainhosa_flash_arm_counted(&flash, counts, row_length, &total, &count), arm_number);
+    expect(line, "count", count, 0);
+    expect(line, "total", total, before);
+    SAME(counts, old_counts, sizeof counts);
+    expect_unchanged();
+}
+
+#define NONE_COUNTED(number) none_counted(__LINE__, 7, number, number, 0)
+
+static void counting(void) {
+    uint64_t count = BEFORE;
+    unsigned place;
+    EQUAL(TAINHOSA_ROW_LENGTH(3), 7);
+    EQUAL(TAINHOSA_ROW_LENGTH(TAINHOSA_SECTORS_MAX), TAINHOSA_ROW_LENGTH_MAX);
+
+    /* Arming erases UPDATE's trailer sector; an update each sector once, SWAP for each firmware sector; a fallback no trailer sector. */
+    two_images(1, 2);
+    put_counts(0, 0, 0, 0, 0, 0, 0);
+    EQUAL(tainhosa_flash_arm_counted(&flash, counts, 7, &total, &count), TAINHOSA_OK);
+    EQUAL(count, 2);
+    COUNTS(0, 0, 0, 0, 0, 1, 0);
+    COUNTED(UINT64_MAX, TAINHOSA_RUN_ON_TEST, 21);
+    COUNTS(1, 1, 1, 1, 1, 2, 2);
+    COUNTED(UINT64_MAX, TAINHOSA_RUN_FALLEN_BACK, 19);
+    COUNTS(2, 2, 1, 2, 2, 2, 4);
+    COUNTED(UINT64_MAX, TAINHOSA_RUN, 0);
+    COUNTS(2, 2, 1, 2, 2, 2, 4);
+
+    /* Each operation of an update: the erases are the operations 1, 4, 7, 10, 13, 16, 19 and 21. */
+    armed(1, 2);
+    put_counts(10, 20, 30, 40, 50, 60, 70);
+    COUNTED(0, TAINHOSA_CUT, 0);
+    COUNTS(10, 20, 30, 40, 50, 60, 70);
+    COUNTED(1, TAINHOSA_CUT, 1);
+    COUNTS(10, 20, 30, 40, 50, 60, 71);
+    COUNTED(3, TAINHOSA_CUT, 3);
+    COUNTS(10, 20, 30, 40, 50, 60, 72);
+    COUNTED(1, TAINHOSA_CUT, 1);
+    COUNTS(10, 20, 30, 41, 50, 60, 72);
+    COUNTED(3, TAINHOSA_CUT, 3);
+    COUNTS(10, 20, 30, 42, 50, 60, 72);
+    COUNTED(4, TAINHOSA_CUT, 4);
+    COUNTS(11, 20, 30, 42, 50, 60, 73);
+    COUNTED(10, TAINHOSA_CUT, 10);
+    COUNTS(11, 21, 31, 42, 51, 60, 74);
+    COUNTED(UINT64_MAX, TAINHOSA_RUN_ON_TEST, 2);
+    COUNTS(11, 21, 31, 42, 51, 61, 74);
+
+    /* Turned down: UPDATE's trailer sector is erased, also where BOOT is bad, which comes after it. */
+    armed(7, 7);
+    put_counts(1, 2, 3, 4, 5, 6, 7);
+    COUNTED(0, TAINHOSA_CUT, 0);
+    COUNTS(1, 2, 3, 4, 5, 6, 7);
+    COUNTED(UINT64_MAX, TAINHOSA_RUN, 1);
+    COUNTS(1, 2, 3, 4, 5, 7, 7);
+    armed(1, 2);
+    update[3] = 0;
+    boot[256] ^= 1;
+    count_power_up(__LINE__, UINT64_MAX, TAINHOSA_BAD_BOOT, TAINHOSA_REFUSED, 1);
+    COUNTS(1, 2, 3, 4, 5, 8, 7);
+
+    /* A count as high as may be, which two erases bring to the end of 32 bits; a total that needs more than these. */
+    armed(1, 2);
+    put_counts(5, 0, MOST, 0, 0, MOST, MOST);
+    COUNTED(UINT64_MAX, TAINHOSA_RUN_ON_TEST, 21);
+    COUNTS(6, 1, MOST + 1, 1, 1, MOST + 1, UINT32_MAX);
+    NONE_COUNTED(TAINHOSA_COUNT_TOO_HIGH);
+
+    /* One above, at each place; then with a wrong total too, and with a status byte that may not stand there, which come in this order. */
+    two_images(1, 2);
+    for (place = 0; place < 7; place++) {
+        put_counts(0, 0, 0, 0, 0, 0, 0);
+        counts[place] = MOST;
+        total = MOST;
+        COUNTED(UINT64_MAX, TAINHOSA_RUN, 0);
+        EQUAL(total, MOST);
+        counts[place] = MOST + 1;
+        NONE_COUNTED(TAINHOSA_WRONG_TOTAL);
+        total = (uint64_t)MOST + 1;
+        NONE_COUNTED(TAINHOSA_COUNT_TOO_HIGH);
+        boot[STATUS] = 0x70;
+        NONE_COUNTED(TAINHOSA_COUNT_TOO_HIGH);
+        boot[STATUS] = TAINHOSA_STATUS_SUCCESS;
+    }
+
+    /* Totals that are not the sum: one more, one less, its low 32 bits. */
+    armed(1, 2);
+    put_counts(MOST, MOST, 0, 1, 2, 3, 4);
+    total++;
+    NONE_COUNTED(TAINHOSA_WRONG_TOTAL);
+    total -= 2;
+    NONE_COUNTED(TAINHOSA_WRONG_TOTAL);
+    total = (total + 1) & UINT32_MAX;
+    NONE_COUNTED(TAINHOSA_WRONG_TOTAL);
+
+    /* What the calls that count nothing refuse comes behind that, and the total is the sum. */
+    put_counts(1, 2, 3, 4, 5, 6, 7);
+    none_counted(__LINE__, 6, TAINHOSA_OUTSIDE_RULES, TAINHOSA_OUTSIDE_RULES, 0);
+    none_counted(__LINE__, 0, TAINHOSA_OUTSIDE_RULES, TAINHOSA_OUTSIDE_RULES, 0);
+    total = 6; /* wrong too */
+    none_counted(__LINE__, 6, TAINHOSA_OUTSIDE_RULES, TAINHOSA_OUTSIDE_RULES, 0);
+    put_counts(1, 2, 3, 4, 5, 6, 7);
+    boot[256] ^= 1;
+    none_counted(__LINE__, 7, TAINHOSA_BAD_BOOT, TAINHOSA_WRONG_TIME, TAINHOSA_WRONG_DIGEST);
+    armed(1, 2);
+    update[FLAGS] = 0x7F;
+    none_counted(__LINE__, 7, TAINHOSA_FLAGS_MALFORMED, TAINHOSA_WRONG_TIME, 0);
+    two_images(1, 2);
+    boot[STATUS] = TAINHOSA_STATUS_TESTING;
+    update[256] ^= 1;
+    none_counted(__LINE__, 7, TAINHOSA_NO_FALLBACK, TAINHOSA_WRONG_TIME, TAINHOSA_WRONG_DIGEST);
+    boot[STATUS] = 0x70;
+    NONE_COUNTED(TAINHOSA_STATUS_NOT_ALLOWED);
+    COUNTS(1, 2, 3, 4, 5, 6, 7);
+    flash.swap_length = 255;
+    NONE_COUNTED(TAINHOSA_OUTSIDE_RULES);
+    flash.swap_length = 256;
+    flash.sectors = 2;
+    NONE_COUNTED(TAINHOSA_OUTSIDE_RULES);
+    flash.sectors = 3;
+}
+
+/* The counted calls on rows. A row of counts that is too long is one more than there are sectors for. */
+static void counted_rows(void) {
+    uint64_t answer[TAINHOSA_COUNTED_NUMBERS + 1], command[TAINHOSA_COUNTED_COMMAND_NUMBERS + 1];
+    uint32_t longer[TAINHOSA_ROW_LENGTH(3) + 1] = {1, 1, 1, 1, 1, 1, 1, 0};
+    EQUAL(TAINHOSA_COUNTED_NUMBERS, 7);
+    EQUAL(TAINHOSA_COUNTED_COMMAND_NUMBERS, 2);
+    two_images(9, 10);
+    remember();
+    memcpy(old_counts, longer, sizeof old_counts);
+    memset(answer, BEFORE, sizeof answer);
+    memset(command, BEFORE, sizeof command);
+    EQUAL(tainhosa_power_up_counted(3, 256, boot, 768, update, 768, swap, 256, 9, longer, 7, 7, answer, 6), TAINHOSA_OUTSIDE_RULES);
+    EQUAL(tainhosa_power_up_counted(3, 256, boot, 768, update, 768, swap, 256, 9, longer, 7, 7, answer, 8), TAINHOSA_OUTSIDE_RULES);
+    EQUAL(tainhosa_arm_counted(3, 256, boot, 768, update, 768, swap, 256, longer, 7, 7, command, 1), TAINHOSA_OUTSIDE_RULES);
+    EQUAL(tainhosa_arm_counted(3, 256, boot, 768, update, 768, swap, 256, longer, 7, 7, command, 3), TAINHOSA_OUTSIDE_RULES);
+    EVERY((const uint8_t *)answer, 0, sizeof answer, BEFORE);
+    EVERY((const uint8_t *)command, 0, sizeof command, BEFORE);
+    EQUAL(tainhosa_power_up_counted(3, 256, boot, 768, update, 768, swap, 256, 9, longer, 8, 7, answer, 7), TAINHOSA_OUTSIDE_RULES);
+    EVERY((const uint8_t *)answer, 0, 6 * sizeof answer[0], 0);
+    EQUAL(answer[TAINHOSA_COUNTED_TOTAL], 7);
+    EQUAL(tainhosa_arm_counted(3, 256, boot, 768, update, 768, swap, 256, longer, 8, 7, command, 2), TAINHOSA_OUTSIDE_RULES);
+    EQUAL(command[TAINHOSA_COMMAND_COUNT], 0);
+    EQUAL(command[TAINHOSA_COUNTED_COMMAND_TOTAL], 7);
+    SAME(longer, old_counts, sizeof old_counts);
+    expect_unchanged();
+
+    EQUAL(tainhosa_arm_counted(3, 256, boot, 768, update, 768, swap, 256, longer, 7, 7, command, 2), TAINHOSA_OK);
+    EQUAL(command[TAINHOSA_COMMAND_COUNT], 2);
+    EQUAL(command[TAINHOSA_COUNTED_COMMAND_TOTAL], 8);
+    EQUAL(longer[TAINHOSA_ROW_UPDATE(3, 2)], 2);
+    EQUAL(tainhosa_power_up_counted(3, 256, boot, 768, update, 768, swap, 256, 4, longer, 7, 8, answer, 7), TAINHOSA_OK);
+    EQUAL(answer[TAINHOSA_POWER_UP_OUTCOME], TAINHOSA_CUT);
+    EQUAL(answer[TAINHOSA_POWER_UP_COUNT], 4);
+    EQUAL(answer[TAINHOSA_COUNTED_TOTAL], 10);
+    EQUAL(longer[TAINHOSA_ROW_SWAP(3)], 2);
+    EQUAL(longer[TAINHOSA_ROW_UPDATE(3, 0)], 2);
+    EQUAL(longer[7], 0);
+}
+
 /* The calls on rows, and rows of another length. */
 static void rows(void) {
     uint64_t answer[TAINHOSA_POWER_UP_NUMBERS + 1], count[TAINHOSA_COMMAND_NUMBERS + 1], mended[TAINHOSA_MEND_NUMBERS + 1];
@@ -1409,6 +1630,8 @@ int main(void) {
     refusals();
     mending();
     unused_half();
+    counting();
+    counted_rows();
     rows();
     printf("%d expectations, %d wrong\n", tried, wrong);
     return wrong == 0 ? 0 : 1;

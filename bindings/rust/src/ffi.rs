@@ -124,4 +124,37 @@ extern "C" {
         numbers: *mut u64,
         numbers_length: usize,
     ) -> u32;
+
+    pub fn tainhosa_power_up_counted(
+        sectors: usize,
+        size: usize,
+        boot: *mut u8,
+        boot_length: usize,
+        update: *mut u8,
+        update_length: usize,
+        swap: *mut u8,
+        swap_length: usize,
+        budget: u64,
+        row: *mut u32,
+        row_length: usize,
+        total: u64,
+        answer: *mut u64,
+        answer_length: usize,
+    ) -> u32;
+
+    pub fn tainhosa_arm_counted(
+        sectors: usize,
+        size: usize,
+        boot: *mut u8,
+        boot_length: usize,
+        update: *mut u8,
+        update_length: usize,
+        swap: *mut u8,
+        swap_length: usize,
+        row: *mut u32,
+        row_length: usize,
+        total: u64,
+        answer: *mut u64,
+        answer_length: usize,
+    ) -> u32;
 }

@@ -53,6 +53,11 @@ impl Geometry {
     pub fn partition(self) -> usize {
         self.sectors * self.size
     }
+
+    /// The erase counts of a flash: one for each sector of BOOT, then for each of UPDATE, then for SWAP.
+    pub fn row_length(self) -> usize {
+        2 * self.sectors + 1
+    }
 }
 
 /// The status byte of a partition, its last byte.
@@ -341,6 +346,94 @@ impl<'a> Flash<'a> {
             0 => Ok(Mended { mark: Mark { sector: sector as usize, flag: Flag::of(flag as u8) }, bytes }),
             number => Err(Refusal::new(number, 0)),
         }
+    }
+
+    /// [`power_up_within`](Flash::power_up_within) with its erases counted, for the service sheet. The row has a count for each sector
+    /// of BOOT, then of UPDATE, then for SWAP; a new printer's are 0. Each completed erase adds one to its sector's count, and nothing
+    /// else changes the row. The total comes in as the row's sum, and goes out as that.
+    ///
+    /// Where power is lost, it is the user's part that the row counts the erases that were completed, and no other; the total handed in
+    /// next is then its sum.
+    ///
+    /// Refused before all else with 1 (the row has not [`row_length`](Geometry::row_length) counts), 19 (the total is not the row's sum)
+    /// or 20 (some count is above 4,294,967,295 less the number of firmware sectors); then flash, row and total stay as they are.
+    ///
+    /// ```
+    /// # use tainhosa::{Flash, Geometry, Outcome, Refusal, Sheet};
+    /// # let geometry = Geometry::new(3, 256)?;
+    /// # let partition = |version| {
+    /// #     let sheet = Sheet { version, timestamp: 0, auth_type: 0, signature: [0; 64], hint: None };
+    /// #     let firmware = [version as u8; 200];
+    /// #     let mut bytes = [&sheet.make_header(&firmware)?[..], &firmware].concat();
+    /// #     bytes.resize(geometry.partition(), 0xFF);
+    /// #     Ok::<_, tainhosa::Refusal>(bytes)
+    /// # };
+    /// # let (mut boot, mut update, mut swap) = (partition(7)?, partition(8)?, [0; 256]);
+    /// # boot[767] = 0x00;
+    /// let mut flash = Flash::new(geometry, &mut boot, &mut update, &mut swap)?;
+    /// let mut row = vec![0; geometry.row_length()];
+    /// let mut total = 0;
+    ///
+    /// // BOOT's three sectors, UPDATE's three, and SWAP: arming erases UPDATE's trailer sector.
+    /// flash.arm_counted(&mut row, &mut total)?;
+    /// assert_eq!((&row[..], total), (&[0, 0, 0, 0, 0, 1, 0][..], 1));
+    ///
+    /// // Power is lost after four operations: SWAP was erased, and sector 0 of UPDATE.
+    /// assert_eq!(flash.power_up_counted_within(4, &mut row, &mut total).outcome, Outcome::Cut);
+    /// assert_eq!((&row[..], total), (&[0, 0, 0, 1, 0, 1, 1][..], 3));
+    ///
+    /// // A total that is wrong, and a count that is too high.
+    /// let refused = |number| Outcome::Refused(Refusal::new(number, 0));
+    /// assert_eq!(flash.power_up_counted(&mut row, &mut 2).outcome, refused(19));
+    /// let mut full = [0, 0, u32::MAX - 1, 0, 0, 0, 0];
+    /// assert_eq!(flash.power_up_counted(&mut full, &mut 4_294_967_294).outcome, refused(20));
+    /// assert_eq!(flash.power_up_counted(&mut row[1..], &mut total).outcome, refused(1));
+    ///
+    /// // The update goes on, and both trailer sectors are erased at its end.
+    /// assert_eq!(flash.power_up_counted(&mut row, &mut total).outcome, Outcome::RunOnTest);
+    /// assert_eq!((&row[..], total), (&[1, 1, 1, 2, 1, 2, 2][..], 10));
+    /// # Ok::<(), tainhosa::Refusal>(())
+    /// ```
+    pub fn power_up_counted_within(&mut self, budget: u64, row: &mut [u32], total: &mut u64) -> PowerUp {
+        let (sectors, size) = (self.geometry.sectors, self.geometry.size);
+        let mut numbers = [0; 7];
+        let answer = raw::power_up_counted(sectors, size, self.buffers(), budget, row, *total, &mut numbers);
+        let [outcome, operations, inner, inner_place, reason, reason_place, sum] = numbers;
+        *total = sum;
+        PowerUp::of(answer, [outcome, operations, inner, inner_place, reason, reason_place])
+    }
+
+    /// [`power_up_counted_within`](Flash::power_up_counted_within) with as many operations as it takes.
+    pub fn power_up_counted(&mut self, row: &mut [u32], total: &mut u64) -> PowerUp {
+        self.power_up_counted_within(u64::MAX, row, total)
+    }
+
+    /// [`arm`](Flash::arm) with its erase counted, that of UPDATE's trailer sector. Row and total are those of
+    /// [`power_up_counted_within`](Flash::power_up_counted_within).
+    ///
+    /// Refused with 1, 19 or 20, as there, and then with 10 or 14; then no byte, no count and no total changes.
+    ///
+    /// ```
+    /// # use tainhosa::{Flash, Geometry};
+    /// # let geometry = Geometry::new(3, 256)?;
+    /// let (mut boot, mut update, mut swap) = ([0xFF; 768], [0xFF; 768], [0xFF; 256]);
+    /// let mut flash = Flash::new(geometry, &mut boot, &mut update, &mut swap)?;
+    /// let (mut row, mut total) = ([40, 41, 7, 40, 42, 12, 90], 272);
+    ///
+    /// assert_eq!(flash.arm_counted(&mut row, &mut 271).unwrap_err().number, 19);
+    /// assert_eq!(flash.arm_counted(&mut row, &mut total)?, 2);
+    /// assert_eq!((row, total), ([40, 41, 7, 40, 42, 13, 90], 273));
+    /// assert_eq!(flash.arm_counted(&mut row, &mut total).unwrap_err().number, 14);
+    /// assert_eq!((row, total), ([40, 41, 7, 40, 42, 13, 90], 273));
+    /// # Ok::<(), tainhosa::Refusal>(())
+    /// ```
+    pub fn arm_counted(&mut self, row: &mut [u32], total: &mut u64) -> Result<u64, Refusal> {
+        let (sectors, size) = (self.geometry.sectors, self.geometry.size);
+        let mut numbers = [0; 2];
+        let answer = raw::arm_counted(sectors, size, self.buffers(), row, *total, &mut numbers);
+        let [count, sum] = numbers;
+        *total = sum;
+        counted(answer, [count])
     }
 }
 

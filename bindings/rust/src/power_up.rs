@@ -4,7 +4,7 @@ use crate::Refusal;
 /// What a power-up came to.
 #[derive(Clone, Copy, Debug, PartialEq, Eq)]
 pub enum Outcome {
-    /// Nothing may run: 1, 10, 11, or with the bad image's own refusal 12 or 13.
+    /// Nothing may run: 1, 10, 11, or with the bad image's own refusal 12 or 13; where erases are counted also 19 and 20.
     Refused(Refusal),
     /// An operation is left to do, and the budget is used up.
     Cut,

@@ -200,3 +200,54 @@ pub fn mend(sectors: usize, size: usize, boot: &[u8], update: &mut [u8], swap: &
         )
     }
 }
+
+/// `tainhosa_power_up_counted`: 2 x sectors + 1 counts, and 7 numbers for the answer.
+pub fn power_up_counted(
+    sectors: usize,
+    size: usize,
+    flash: Buffers<'_>,
+    budget: u64,
+    row: &mut [u32],
+    total: u64,
+    answer: &mut [u64],
+) -> u32 {
+    unsafe {
+        ffi::tainhosa_power_up_counted(
+            sectors,
+            size,
+            flash.boot.as_mut_ptr(),
+            flash.boot.len(),
+            flash.update.as_mut_ptr(),
+            flash.update.len(),
+            flash.swap.as_mut_ptr(),
+            flash.swap.len(),
+            budget,
+            row.as_mut_ptr(),
+            row.len(),
+            total,
+            answer.as_mut_ptr(),
+            answer.len(),
+        )
+    }
+}
+
+/// `tainhosa_arm_counted`: 2 x sectors + 1 counts, and 2 numbers for the answer.
+pub fn arm_counted(sectors: usize, size: usize, flash: Buffers<'_>, row: &mut [u32], total: u64, answer: &mut [u64]) -> u32 {
+    unsafe {
+        ffi::tainhosa_arm_counted(
+            sectors,
+            size,
+            flash.boot.as_mut_ptr(),
+            flash.boot.len(),
+            flash.update.as_mut_ptr(),
+            flash.update.len(),
+            flash.swap.as_mut_ptr(),
+            flash.swap.len(),
+            row.as_mut_ptr(),
+            row.len(),
+            total,
+            answer.as_mut_ptr(),
+            answer.len(),
+        )
+    }
+}

@@ -37,13 +37,14 @@ const AGAIN: &str =
                      release sheet and its firmware.";
 
 /// Every refusal, by its number.
-pub const MEANINGS: [Meaning; 23] = [
+pub const MEANINGS: [Meaning; 25] = [
     row(
         1,
         Place::Nothing,
         "the geometry or the length of a buffer is outside the rules",
         "Give 2 to 512 sectors, and a sector's size from 256 to 131072 bytes that is a multiple of 256; 512 sectors of 256 bytes are \
-         too many, since their trailer needs 257 bytes. BOOT and UPDATE have exactly sectors x size bytes, SWAP has size bytes.",
+         too many, since their trailer needs 257 bytes. BOOT and UPDATE have exactly sectors x size bytes, SWAP has size bytes. A row of \
+         erase counts has 2 x sectors + 1.",
     ),
     row(
         2,
@@ -137,6 +138,20 @@ pub const MEANINGS: [Meaning; 23] = [
         "Who put the tag there wants the image used only where the tag is understood. Get a newer version of this program, or of the \
          printer's loader, that knows the type; or have the image made without the tag. If nobody put such a tag there, the header was \
          damaged: get the file again.",
+    ),
+    row(
+        19,
+        Place::Nothing,
+        "the total is not the sum of the erase counts",
+        "The counts or their total were damaged, or the two are not of the same moment: nothing was done. Where power was lost, hand in \
+         the sum of the counts of the erases that were completed. Otherwise take both from the last good service sheet.",
+    ),
+    row(
+        20,
+        Place::Nothing,
+        "an erase count is too high: a power-up might bring it above 4294967295",
+        "With so many sectors before the trailer as m, no count may be above 4294967295 - m. No flash is erased so often: the counts were \
+         damaged, or are not this printer's. Take them from the last good service sheet.",
     ),
     row(
         101,

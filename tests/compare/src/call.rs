@@ -76,12 +76,15 @@ pub enum Call {
     Arm { g: Geometry, flash: LentFlash, count: Lent<u64> },
     Confirm { g: Geometry, flash: LentFlash, count: Lent<u64> },
     Mend { g: Geometry, flash: LentFlash, numbers: Lent<u64> },
+    PowerUpCounted { g: Geometry, flash: LentFlash, budget: u64, row: Lent<u32>, total: u64, answer: Lent<u64> },
+    ArmCounted { g: Geometry, flash: LentFlash, row: Lent<u32>, total: u64, answer: Lent<u64> },
 }
 
 pub enum Part<'a> {
     Number(u64),
     Bytes(&'a Lent<u8>),
     Row(&'a Lent<u64>),
+    Counts(&'a Lent<u32>),
 }
 
 fn sizes<'a>(g: &Geometry) -> Vec<(&'static str, Part<'a>)> {
@@ -121,6 +124,15 @@ fn flash_lengths(g: &Geometry, f: &LentFlash) -> Vec<Length> {
     all
 }
 
+fn counted_lengths(g: &Geometry, f: &LentFlash, row: &[u32], answer: Length) -> Vec<Length> {
+    let mut all = flash_lengths(g, f);
+    if g.within_rules() {
+        all.push(("row", row.len(), 2 * g.n + 1));
+    }
+    all.push(answer);
+    all
+}
+
 impl Call {
     pub fn name(&self) -> &'static str {
         match self {
@@ -136,6 +148,8 @@ impl Call {
             Call::Arm { .. } => "arm",
             Call::Confirm { .. } => "confirm",
             Call::Mend { .. } => "mend",
+            Call::PowerUpCounted { .. } => "power_up_counted",
+            Call::ArmCounted { .. } => "arm_counted",
         }
     }
 
@@ -194,6 +208,19 @@ impl Call {
                 all.push(("numbers", Part::Row(numbers)));
                 all
             }
+            Call::PowerUpCounted { g, flash, budget, row, total, answer } => {
+                let mut all = sizes(g);
+                all.extend(buffers(flash));
+                all.extend([("budget", Part::Number(*budget)), ("row", Part::Counts(row))]);
+                all.extend([("total", Part::Number(*total)), ("answer", Part::Row(answer))]);
+                all
+            }
+            Call::ArmCounted { g, flash, row, total, answer } => {
+                let mut all = sizes(g);
+                all.extend(buffers(flash));
+                all.extend([("row", Part::Counts(row)), ("total", Part::Number(*total)), ("answer", Part::Row(answer))]);
+                all
+            }
         }
     }
 
@@ -227,6 +254,8 @@ impl Call {
                 all.push(("numbers", numbers.len(), 3));
                 all
             }
+            Call::PowerUpCounted { g, flash, row, answer, .. } => counted_lengths(g, flash, row, ("answer", answer.len(), 7)),
+            Call::ArmCounted { g, flash, row, answer, .. } => counted_lengths(g, flash, row, ("answer", answer.len(), 2)),
         }
     }
 
@@ -235,6 +264,7 @@ impl Call {
         match self {
             Call::CheckImage { g, .. } | Call::PowerUp { g, .. } | Call::Arm { g, .. } => Some(*g),
             Call::Confirm { g, .. } | Call::Mend { g, .. } => Some(*g),
+            Call::PowerUpCounted { g, .. } | Call::ArmCounted { g, .. } => Some(*g),
             _ => None,
         }
     }
@@ -250,6 +280,7 @@ impl Call {
             Call::CheckFirmware { image, .. } => image.len() > 5000,
             Call::CheckImage { g, .. } | Call::PowerUp { g, .. } | Call::Arm { g, .. } => g.n > 6 || g.s > 768,
             Call::Confirm { g, .. } | Call::Mend { g, .. } => g.n > 6 || g.s > 768,
+            Call::PowerUpCounted { g, .. } | Call::ArmCounted { g, .. } => g.n > 6 || g.s > 768,
         }
     }
 }

@@ -244,15 +244,28 @@ fn try_mend(c: &mut Compare, r: &mut Random, g: Geometry, f: &Flash) {
     c.call(Call::Mend { g, flash: LentFlash::new(&f), numbers: row(r, 3) });
 }
 
-/// All five calls on one flash, each on the flash as it is given.
+/// A row of counts, mostly of the right length, and a total.
+fn counts(r: &mut Random, g: Geometry) -> (Lent<u32>, u64) {
+    let n = g.n.clamp(2, 600);
+    let length = any_length(r, 2 * n + 1);
+    let row = any_row(r, length, n - 1);
+    let total = any_total(r, &row);
+    (Lent::new(&row), total)
+}
+
+/// All seven calls on one flash, each on the flash as it is given.
 fn try_calls(c: &mut Compare, r: &mut Random, g: Geometry, f: &Flash) {
     let partition = Lent::new(if r.one_in(2) { &f.boot } else { &f.update });
     let flash = LentFlash::new(f);
     c.call(Call::CheckImage { g, partition, numbers: row(r, 6), bytes: bytes(r, 128) });
     c.call(Call::PowerUp { g, flash: flash.clone(), budget: any_budget(r, g), answer: row(r, 6) });
     c.call(Call::Arm { g, flash: flash.clone(), count: row(r, 1) });
-    c.call(Call::Confirm { g, flash, count: row(r, 1) });
+    c.call(Call::Confirm { g, flash: flash.clone(), count: row(r, 1) });
     try_mend(c, r, g, f);
+    let (row_lent, total) = counts(r, g);
+    c.call(Call::PowerUpCounted { g, flash: flash.clone(), budget: any_budget(r, g), row: row_lent, total, answer: row(r, 7) });
+    let (row_lent, total) = counts(r, g);
+    c.call(Call::ArmCounted { g, flash, row: row_lent, total, answer: row(r, 2) });
 }
 
 fn try_flash(c: &mut Compare, r: &mut Random, g: Geometry) {

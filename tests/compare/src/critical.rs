@@ -751,7 +751,13 @@ impl Trial<'_> {
     /// A byte of the digest or of the firmware is another one.
     fn with_9(&mut self) {
         for (is_read, in_digest) in [(false, false), (false, true), (true, false), (true, true)] {
-            let (mut l, tags) = self.begin(true);
+            // A sector with a byte or two of firmware could be the same as another area's, which mending would then take for it.
+            let (mut l, tags) = loop {
+                let begun = self.begin(true);
+                if !(1..8).contains(&(begun.0.firmware.len() % 256)) {
+                    break begun;
+                }
+            };
             let at = self.put_read_or_not(&mut l, &tags, is_read);
             let mut image = l.image(0xFF);
             let wrong = if in_digest { l.digest.unwrap() + 4 + self.r.below(32) } else { self.r.within(HEADER, image.len() - 1) };

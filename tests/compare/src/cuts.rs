@@ -31,10 +31,11 @@ enum Event {
     WrongGeometry(Geometry),
 }
 
-/// Where a list has come to: the flash, the operations completed, the early ends, and the list.
+/// Where a list has come to: the flash, the erase counts if these are kept, the operations completed, the early ends, and the list.
 #[derive(Clone)]
 pub struct Stage {
     pub flash: Flash,
+    counts: Option<Counts>,
     done: u64,
     early: u64,
     list: Vec<Event>,
@@ -57,6 +58,8 @@ pub struct Job {
     fallback: bool,
     /// The moves that the flags have behind them when the list begins.
     behind: u64,
+    /// The erase counts that the list begins with, if they are kept.
+    counts: Option<Counts>,
 }
 
 /// Where a sector's two old contents stand by its flag.
@@ -77,7 +80,13 @@ pub fn moves(flag: u8) -> usize {
 
 impl Job {
     pub fn new(c: &Compare, g: Geometry, old: Flash, fallback: bool) -> Self {
-        Job { g, begin: old.clone(), old, fallback, behind: 0 }.seen(c)
+        Job { g, begin: old.clone(), old, fallback, behind: 0, counts: None }.seen(c)
+    }
+
+    /// The same, and every power-up counts its erases, from this row on.
+    pub fn counting(self, row: Vec<u32>) -> Self {
+        let counts = Some(Counts { total: sum(&row), row });
+        Job { counts, ..self }
     }
 
     /// The rest of an update whose flags were mended, for the images that they show.
@@ -85,7 +94,7 @@ impl Job {
         let flags = begin.flags(g);
         let (boot, update) = old_images(g, &begin, &flags);
         let behind = flags.iter().map(|flag| moves(*flag) as u64).sum();
-        Job { g, old: Flash { boot, update, swap: begin.swap.clone() }, begin, fallback: false, behind }.seen(c)
+        Job { g, old: Flash { boot, update, swap: begin.swap.clone() }, begin, fallback: false, behind, counts: None }.seen(c)
     }
 
     fn seen(self, c: &Compare) -> Self {
@@ -97,7 +106,7 @@ impl Job {
     }
 
     pub fn start(&self) -> Stage {
-        Stage { flash: self.begin.clone(), done: 0, early: 0, list: Vec::new() }
+        Stage { flash: self.begin.clone(), counts: self.counts.clone(), done: 0, early: 0, list: Vec::new() }
     }
 
     pub fn finished(&self, f: &Flash) -> bool {
@@ -169,6 +178,9 @@ impl Job {
         println!("DEMAND 3 BROKEN: {what}; call {} of seed {}", c.calls, c.seed);
         println!("{}, {:?}", if self.fallback { "fallback" } else { "update" }, self.g);
         println!("{} operations, {} early ends: {:?}", after.done, after.early, after.list);
+        if let (Some(begin), Some(was), Some(is)) = (&self.counts, &before.counts, &after.counts) {
+            println!("counts at the start {begin:?}, before {was:?}, after {is:?}");
+        }
         let all = [("old", &self.old), ("start", &self.begin), ("before", &before.flash), ("after", &after.flash)];
         for (when, f) in all {
             for (name, b) in [("boot", &f.boot), ("update", &f.update), ("swap", &f.swap)] {
@@ -180,19 +192,44 @@ impl Job {
 
     // ---- power-ups
 
-    /// The answer, the row and the flash, equal on both sides.
-    fn power_up(&self, c: &mut Compare, g: Geometry, f: &Flash, budget: u64) -> (u32, Vec<u64>, Flash) {
-        let answer = Lent::new(&[u64::MAX; 6]);
-        match c.call(Call::PowerUp { g, flash: LentFlash::new(f), budget, answer }) {
-            (number, Call::PowerUp { flash, answer, .. }) => (number, answer.to_vec(), flash.flash()),
+    /// The answer, the row and the stage that is left but for its list, equal on both sides.
+    fn power_up(&self, c: &mut Compare, g: Geometry, at: &Stage, budget: u64) -> (u32, Vec<u64>, Stage) {
+        let flash = LentFlash::new(&at.flash);
+        let call = match &at.counts {
+            None => Call::PowerUp { g, flash, budget, answer: Lent::new(&[u64::MAX; 6]) },
+            Some(Counts { row, total }) => {
+                let answer = Lent::new(&[u64::MAX; 7]);
+                Call::PowerUpCounted { g, flash, budget, row: Lent::new(row), total: *total, answer }
+            }
+        };
+        let (number, left) = c.call(call);
+        let (flash, answer, counts) = match &left {
+            Call::PowerUp { flash, answer, .. } => (flash, answer, None),
+            Call::PowerUpCounted { flash, row, answer, .. } => {
+                (flash, answer, Some(Counts { row: row.to_vec(), total: answer[6] }))
+            }
             _ => unreachable!(),
+        };
+        (number, answer[..6].to_vec(), Stage { flash: flash.flash(), counts, ..at.clone() })
+    }
+
+    /// The counts, if they are kept, are what so many operations, which were completed, add to them.
+    fn counted(&self, c: &Compare, before: &Stage, after: &Stage, done: u64) {
+        if let (Some(was), Some(is)) = (&before.counts, &after.counts) {
+            let done = &self.operations(c, before)[..done as usize];
+            let mut due = was.clone();
+            due.count(self.g, done);
+            let erases = done.iter().filter(|op| matches!(op, Operation::Erase(..) | Operation::EraseTrailer(_))).count();
+            if *is != due || is.total != was.total + erases as u64 {
+                self.broken(c, "the counts are not those of the completed erases", before, after);
+            }
         }
     }
 
     /// A power-up that loses no power. It is cut or finishes, and with a budget of three or more it gets on.
     fn untorn(&self, c: &mut Compare, at: &Stage, budget: u64) -> Stage {
-        let (number, row, flash) = self.power_up(c, self.g, &at.flash, budget);
-        let mut next = Stage { flash, done: at.done + row[1], early: at.early, list: at.list.clone() };
+        let (number, row, mut next) = self.power_up(c, self.g, at, budget);
+        next.done += row[1];
         next.list.push(Event::Untorn { budget });
         let finish = if self.fallback { 4 } else { 3 };
         let outcome = if self.finished(&next.flash) { finish } else { 1 };
@@ -203,14 +240,19 @@ impl Job {
             next.early += 1;
         }
         self.holds(c, at, &next, budget >= 3);
+        self.counted(c, at, &next, row[1]);
         next
     }
 
-    /// Power is lost after so many operations: every way in which the next one may be broken off.
+    /// Power is lost after so many operations: every way in which the next one may be broken off. It is not counted, whatever its bytes
+    /// are; the total is lost too, and the one handed in next is the row's sum.
     fn lose(&self, c: &mut Compare, r: &mut Random, at: &Stage, after: u64, next: Option<Operation>) -> Vec<Stage> {
-        let (number, row, flash) = self.power_up(c, self.g, &at.flash, after);
+        let (number, row, stage) = self.power_up(c, self.g, at, after);
         let ways = tears(next).iter().map(|tear| {
-            let mut left = Stage { flash: flash.clone(), done: at.done + after, early: at.early + 1, list: at.list.clone() };
+            let mut left = stage.clone();
+            left.done += after;
+            left.early += 1;
+            left.counts.iter_mut().for_each(|counts| counts.total = sum(&counts.row));
             left.list.push(Event::Lost { after, next, tear: *tear });
             match (next, *tear) {
                 (Some(op), Tear::New) => left.flash.perform(self.g, op),
@@ -224,6 +266,7 @@ impl Job {
                 self.broken(c, &format!("the answer is {number}, {row:?}"), at, &left);
             }
             self.holds(c, at, &left, false);
+            self.counted(c, at, &left, after);
             left
         });
         ways.collect()
@@ -261,7 +304,7 @@ impl Job {
     }
 
     /// Every single cut and every pair, in all ways; then the rest, at once and by threes.
-    fn every_cut(&self, c: &mut Compare, r: &mut Random, tried: &mut Tried) {
+    pub fn every_cut(&self, c: &mut Compare, r: &mut Random, tried: &mut Tried) {
         self.finish(c, &self.start());
         for first in self.every_loss(c, r, &self.start()) {
             tried.single_cuts += 1;
@@ -281,7 +324,7 @@ impl Job {
     }
 
     /// A cut at some operation in all ways, and the rest.
-    fn any_cut(&self, c: &mut Compare, r: &mut Random, tried: &mut Tried) {
+    pub fn any_cut(&self, c: &mut Compare, r: &mut Random, tried: &mut Tried) {
         let start = self.start();
         let operations = self.operations(c, &start);
         let k = r.below(operations.len());
@@ -297,10 +340,9 @@ impl Job {
         while g == self.g {
             g = other_geometry(r, self.g);
         }
-        let (number, row, flash) = self.power_up(c, g, &at.flash, r.next());
-        let mut next = Stage { flash, ..at.clone() };
+        let (number, row, mut next) = self.power_up(c, g, at, r.next());
         next.list.push(Event::WrongGeometry(g));
-        if number != 1 || row != [0; 6] || next.flash != at.flash {
+        if number != 1 || row != [0; 6] || next.flash != at.flash || next.counts != at.counts {
             self.broken(c, &format!("the answer is {number}, {row:?}"), at, &next);
         }
         next
@@ -338,7 +380,7 @@ fn armed(r: &mut Random, g: Geometry, boot: u8) -> Flash {
 }
 
 /// The updates from BOOT NEW and from SUCCESS, the fallback from each, and a fallback with any bytes in the trailers.
-fn jobs(c: &Compare, r: &mut Random, g: Geometry) -> Vec<Job> {
+pub fn jobs(c: &Compare, r: &mut Random, g: Geometry) -> Vec<Job> {
     let mut all = Vec::new();
     for boot in [NEW, SUCCESS] {
         let update = armed(r, g, boot);

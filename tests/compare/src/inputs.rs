@@ -499,6 +499,43 @@ pub fn flash(r: &mut Random, g: Geometry) -> Flash {
     f
 }
 
+/// A row of so many counts for m firmware sectors: of a new flash, of a used one, or with counts as high as may be and beyond.
+pub fn any_row(r: &mut Random, length: usize, m: usize) -> Vec<u32> {
+    let most = u32::MAX - m as u32;
+    let used = r.pick(&[1, 10, 1000, 1 << 20]);
+    let mut row: Vec<u32> = match r.below(6) {
+        0 => vec![0; length],
+        1 => (0..length).map(|_| r.next() as u32).collect(),
+        2 => vec![most; length],
+        _ => (0..length).map(|_| r.below(used) as u32).collect(),
+    };
+    if length > 0 && r.one_in(3) {
+        for _ in 0..r.within(1, 3) {
+            let (at, below) = (r.below(length), r.below(3) as u32);
+            row[at] = r.pick(&[most, most, most - below]);
+        }
+    }
+    if length > 0 && r.one_in(6) {
+        let above = r.within(1, m) as u32;
+        let at = r.below(length);
+        // BOOT's trailer, UPDATE's, SWAP, or any.
+        row[r.pick(&[at, at, m.min(length - 1), length - 1, length.saturating_sub(2)])] =
+            r.pick(&[most + 1, most + above, u32::MAX]);
+    }
+    row
+}
+
+/// Mostly the sum of the row; at times one more, one less, what 32 bits hold of it, or something else.
+pub fn any_total(r: &mut Random, row: &[u32]) -> u64 {
+    let right = sum(row);
+    if r.one_in(12) {
+        let (any, low) = (r.next(), right as u32 as u64);
+        r.pick(&[right + 1, right.wrapping_sub(1), low, right + (1 << 32), 0, u64::MAX, any])
+    } else {
+        right
+    }
+}
+
 /// Sizes outside the rules, and buffers that fit them.
 pub fn flash_outside_rules(r: &mut Random) -> (Geometry, Flash) {
     let small = [(0, 256), (1, 256), (2, 0), (3, 128), (3, 255), (3, 257), (3, 384), (2, 300)];

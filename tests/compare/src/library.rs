@@ -25,5 +25,9 @@ pub fn answer(call: &mut Call) -> u32 {
         Call::Arm { g, flash, count } => raw::arm(g.n, g.s, lend(flash), count),
         Call::Confirm { g, flash, count } => raw::confirm(g.n, g.s, lend(flash), count),
         Call::Mend { g, flash, numbers } => raw::mend(g.n, g.s, &flash.boot, &mut flash.update, &flash.swap, numbers),
+        Call::PowerUpCounted { g, flash, budget, row, total, answer } => {
+            raw::power_up_counted(g.n, g.s, lend(flash), *budget, row, *total, answer)
+        }
+        Call::ArmCounted { g, flash, row, total, answer } => raw::arm_counted(g.n, g.s, lend(flash), row, *total, answer),
     }
 }

@@ -1,11 +1,13 @@
 //! Runs the library against the reference: random and damaged inputs, then images with each byte damaged, then tags of types around 8000
-//! with every other fault, then every cut and every pair of cuts for small partitions, then flags that are spoiled at every cut and mended.
+//! with every other fault, then every cut and every pair of cuts for small partitions, then flags that are spoiled at every cut and mended,
+//! then power-ups and arms that count their erases.
 //!
 //! compare [CALLS] [SEED]: the number of random calls (default 1,000,000) and the seed. Every number and byte that a call leaves is
 //! compared. A difference is printed whole and fails (status 1); so does an answer that is never met, unless the calls are fewer than
 //! the default: then that is said, with status 3.
 mod call;
 mod calls;
+mod counts;
 mod covers;
 mod critical;
 mod cuts;
@@ -52,10 +54,12 @@ fn argument(at: usize, default: u64) -> u64 {
 
 fn main() {
     let (calls, seed) = (argument(1, ENOUGH), argument(2, 20_261_115));
-    println!("seed {seed}, {calls} random calls, then damaged images, then types around 8000, then cuts, then mending");
+    println!(
+        "seed {seed}, {calls} random calls, then damaged images, then types around 8000, then cuts, then mending, then counts"
+    );
     catch_signals();
     let mut r = Random(seed);
-    let mut c = Compare { seed, calls: 0, tally: Tally::default() };
+    let mut c = Compare { seed, calls: 0, counted: [0; 2], tally: Tally::default() };
     random_calls(&mut c, &mut r, calls);
     let random = c.calls;
     let answers = std::mem::take(&mut c.tally);
@@ -77,22 +81,38 @@ fn main() {
     println!("answers of the power-ups with cuts:");
     std::mem::take(&mut c.tally).print();
     let mends = mends::try_mends(&mut c, &mut r);
+    let mended = c.calls;
+    let mending = std::mem::take(&mut c.tally);
     println!("answers of mending, and of the power-ups before and behind it:");
+    mending.print();
+    let counts = counts::try_counts(&mut c, &mut r);
+    println!("answers of the power-ups and arms that count erases, and of the power-ups beside them:");
     c.tally.print();
     println!(
-        "seed {seed}: {random} random calls, {} on damaged images, {} on types around 8000, {} power-ups with cuts, {} around mending",
+        "seed {seed}: {random} random calls, {} on damaged images, {} on types around 8000, {} power-ups with cuts, {} around mending, \
+         {} around erase counts",
         damaged - random,
         understood - damaged,
         cut - understood,
-        c.calls - cut
+        mended - cut,
+        c.calls - mended
     );
     covers.print();
     critical.print();
     println!("{} single cuts, {} pairs of cuts, {} lists of power-ups", tried.single_cuts, tried.pairs, tried.lists);
     println!("{} exchanges to mend, {} mended", mends.exchanges, mends.mended);
-    let never = [covered.missing_of_covers(), types.missing_of_critical(), c.tally.missing_of_mends()].concat();
+    println!(
+        "{} power-ups and {} arms with erase counts in all; {} single cuts, {} pairs of cuts, {} lists, {} flashes with every budget",
+        c.counted[0], c.counted[1], counts.tried.single_cuts, counts.tried.pairs, counts.tried.lists, counts.flashes
+    );
+    let never =
+        [covered.missing_of_covers(), types.missing_of_critical(), mending.missing_of_mends(), c.tally.missing_of_counts()]
+            .concat();
     if !never.is_empty() {
-        println!("no difference, but NEVER MET with damaged images, types around 8000 or in mending:\n  {}", never.join("\n  "));
+        println!(
+            "no difference, but NEVER MET with damaged images, types around 8000, in mending or in counts:\n  {}",
+            never.join("\n  ")
+        );
         std::process::exit(1);
     }
     let missing = answers.missing();

@@ -722,3 +722,77 @@ pub fn mend(g: Geometry, f: &mut Flash) -> Result<Mended, Refusal> {
     }
     refuse(17, 0)
 }
+
+// ---- erase counts
+
+/// What a counted call leaves of the counts: the row, and the total that goes out.
+#[derive(Clone, Debug, PartialEq, Eq)]
+pub struct Counts {
+    pub row: Vec<u32>,
+    pub total: u64,
+}
+
+/// The sum of a row.
+pub fn sum(row: &[u32]) -> u64 {
+    row.iter().fold(0, |all, count| all + *count as u64)
+}
+
+/// The sector that an operation erases, if it is an erase: its place in the row.
+fn erased_place(g: Geometry, op: Operation) -> Option<usize> {
+    let (area, i) = match op {
+        Operation::Erase(area, i) => (area, i),
+        Operation::EraseTrailer(area) => (area, g.n - 1),
+        Operation::Copy(..) | Operation::Flag(..) | Operation::Status(..) => return None,
+    };
+    Some(match area {
+        Area::Boot => i,
+        Area::Update => g.n + i,
+        Area::Swap => 2 * g.n,
+    })
+}
+
+/// Refusals 1, 19 and 20, which come before all others.
+fn check_counts(g: Geometry, f: &Flash, counts: &Counts) -> Result<(), Refusal> {
+    if !f.fits(g) || counts.row.len() != 2 * g.n + 1 {
+        return refuse(1, 0);
+    }
+    if counts.total != sum(&counts.row) {
+        return refuse(19, 0);
+    }
+    let most = 4_294_967_295 - g.m() as u64;
+    if counts.row.iter().any(|count| *count as u64 > most) {
+        return refuse(20, 0);
+    }
+    Ok(())
+}
+
+impl Counts {
+    /// Counts the erases among these operations, which were completed; the total goes out as the sum.
+    pub fn count(&mut self, g: Geometry, done: &[Operation]) {
+        for op in done {
+            if let Some(place) = erased_place(g, *op) {
+                self.row[place] += 1;
+            }
+        }
+        self.total = sum(&self.row);
+    }
+}
+
+/// A power-up that counts its erases: those among the operations that it was to do and did, the first so many of its plan.
+pub fn power_up_counted(g: Geometry, f: &mut Flash, budget: u64, counts: &mut Counts) -> Answer {
+    if let Err(r) = check_counts(g, f, counts) {
+        return Answer { outcome: Outcome::Refused(r.number, 0, 0), count: 0, reason: None };
+    }
+    let operations = plan(g, f).map_or(vec![], |plan| plan.operations);
+    let answer = power_up(g, f, budget);
+    counts.count(g, &operations[..answer.count as usize]);
+    answer
+}
+
+/// An arm that counts its erase.
+pub fn arm_counted(g: Geometry, f: &mut Flash, counts: &mut Counts) -> Result<u64, Refusal> {
+    check_counts(g, f, counts)?;
+    let done = arm(g, f)?;
+    counts.count(g, &[Operation::EraseTrailer(Area::Update), Operation::Status(Area::Update, UPDATING)]);
+    Ok(done)
+}

@@ -60,6 +60,7 @@ impl Asked {
         match part {
             Part::Number(n) => println!("  {name}: {n}"),
             Part::Row(row) => println!("  {name}, {} numbers: {:?}", row.len(), &row[..]),
+            Part::Counts(row) => println!("  {name}, {} counts: {:?}", row.len(), &row[..]),
             Part::Bytes(b) => {
                 let file = format!("{}-{}-{label}{name}", self.seed, self.number);
                 println!("  {name}, {} bytes: {}", b.len(), hex(b, &file));
@@ -101,6 +102,7 @@ fn print_first_difference(ours: &Call, theirs: &Call) {
         let found = match (a, b) {
             (Part::Bytes(a), Part::Bytes(b)) => first_difference(name, a, b),
             (Part::Row(a), Part::Row(b)) => first_difference(name, a, b),
+            (Part::Counts(a), Part::Counts(b)) => first_difference(name, a, b),
             _ => false,
         };
         if found {
@@ -114,6 +116,8 @@ fn print_first_difference(ours: &Call, theirs: &Call) {
 pub struct Compare {
     pub seed: u64,
     pub calls: u64,
+    /// Of them, the power-ups and the arms that count erases.
+    pub counted: [u64; 2],
     pub tally: Tally,
 }
 
@@ -121,6 +125,8 @@ impl Compare {
     /// Makes the call on both sides. What the library answers and leaves; a difference ends the program.
     pub fn call(&mut self, call: Call) -> (u32, Call) {
         self.calls += 1;
+        self.counted[0] += u64::from(matches!(call, Call::PowerUpCounted { .. }));
+        self.counted[1] += u64::from(matches!(call, Call::ArmCounted { .. }));
         let (mut ours, mut theirs) = (call.clone(), call.clone());
         let mut asked = Asked { seed: self.seed, number: self.calls, call };
         AT.store(&mut asked, Ordering::SeqCst);

@@ -101,6 +101,19 @@ fn with_flash<T>(lent: &mut LentFlash, act: impl FnOnce(&mut Flash) -> T) -> T {
     result
 }
 
+/// The same with the counts, whose row goes out in place.
+fn with_counts<T>(
+    lent: &mut LentFlash,
+    row: &mut Lent<u32>,
+    total: u64,
+    act: impl FnOnce(&mut Flash, &mut Counts) -> T,
+) -> (T, u64) {
+    let mut counts = Counts { row: row.to_vec(), total };
+    let result = with_flash(lent, |f| act(f, &mut counts));
+    row.copy_from_slice(&counts.row);
+    (result, counts.total)
+}
+
 type Command = fn(Geometry, &mut Flash) -> Result<u64, Refusal>;
 
 fn obey(command: Command, g: Geometry, flash: &mut LentFlash, count: &mut [u64]) -> u32 {
@@ -152,6 +165,18 @@ pub fn answer(call: &mut Call) -> u32 {
             let row = answer.as_ref().map_or([0; 3], |m| [m.sector as u64, m.flag as u64, m.changed as u64]);
             numbers.copy_from_slice(&row);
             number(&answer)
+        }
+        Call::PowerUpCounted { answer, .. } if answer.len() != 7 => WRONG_LENGTH,
+        Call::PowerUpCounted { g, flash, budget, row, total, answer } => {
+            let (a, out) = with_counts(flash, row, *total, |f, counts| power_up_counted(*g, f, *budget, counts));
+            answer[6] = out;
+            lay_out_power_up(a, &mut answer[..6])
+        }
+        Call::ArmCounted { answer, .. } if answer.len() != 2 => WRONG_LENGTH,
+        Call::ArmCounted { g, flash, row, total, answer } => {
+            let (a, out) = with_counts(flash, row, *total, |f, counts| arm_counted(*g, f, counts));
+            answer.copy_from_slice(&[*a.as_ref().unwrap_or(&0), out]);
+            number(&a)
         }
     }
 }

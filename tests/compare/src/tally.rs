@@ -2,7 +2,7 @@
 use crate::call::{Call, LentFlash};
 use crate::critical::{kinds, Class};
 use crate::inputs::{other_covers, TYPES};
-use crate::reference::{next_tag, Geometry, HEADER, NAMES, NEW, SUCCESS, TESTING, UPDATING};
+use crate::reference::{next_tag, sum, Geometry, HEADER, NAMES, NEW, SUCCESS, TESTING, UPDATING};
 use std::collections::{BTreeMap, BTreeSet};
 
 #[derive(Default)]
@@ -85,6 +85,14 @@ impl Tally {
     /// What was never met of what mending has to meet.
     pub fn missing_of_mends(&self) -> Vec<String> {
         MENDS.iter().filter(|what| !self.answers.contains_key(**what)).map(|what| what.to_string()).collect()
+    }
+
+    /// What was never met of what the erase counts have to meet.
+    pub fn missing_of_counts(&self) -> Vec<String> {
+        let all =
+            ["power_up_counted", "arm_counted"].iter().flat_map(|call| COUNTS.iter().map(move |what| format!("{call}: {what}")));
+        let power_ups = COUNTED_POWER_UPS.iter().map(|what| format!("power_up_counted: {what}"));
+        all.chain(power_ups).filter(|what| !self.answers.contains_key(what)).collect()
     }
 
     /// What was never met of the answers that can be met, and of the wrong lengths.
@@ -204,6 +212,63 @@ fn of_mend(flash: &LentFlash, number: u32, row: &[u64]) -> Vec<String> {
     all
 }
 
+/// The part of the flash that a place of the row is for.
+fn area_of_place(g: Geometry, place: usize) -> &'static str {
+    if place == g.n - 1 {
+        "BOOT's trailer"
+    } else if place < g.n {
+        "BOOT"
+    } else if place == 2 * g.n - 1 {
+        "UPDATE's trailer"
+    } else if place < 2 * g.n {
+        "UPDATE"
+    } else {
+        "SWAP"
+    }
+}
+
+/// What a counted call did to the row, or why its counts were refused. The row has the right length.
+fn of_counts(g: Geometry, number: u32, row: &[u32], total: u64, after: &[u32]) -> Vec<String> {
+    let most = u32::MAX - g.m() as u32;
+    let (before, left) = (sum(row), sum(after));
+    let highest = row.iter().max().copied().unwrap_or(0);
+    let mut all = Vec::new();
+    if number == 19 {
+        all.push(if total == before.wrapping_sub(1) {
+            "refused 19, one too low"
+        } else if total == before + 1 {
+            "refused 19, one too high"
+        } else if total == before & 0xFFFF_FFFF {
+            "refused 19, the low half of the sum"
+        } else {
+            "refused 19, another total"
+        });
+        if highest > most {
+            all.push("refused 19, a count too high");
+        }
+    } else if number != 20 {
+        all.push(if left > before { "erases counted" } else { "no erase" });
+        let others = [
+            (highest == most, "a count as high as may be"),
+            (left > before && after.contains(&u32::MAX), "a count becomes 4294967295"),
+            (total > 0xFFFF_FFFF, "a total above 32 bits"),
+            (number == 12 && left > before, "refused 12, erases counted"),
+        ];
+        all.extend(others.iter().filter(|(is_so, _)| *is_so).map(|(_, what)| *what));
+    }
+    let mut all: Vec<String> = all.iter().map(|what| what.to_string()).collect();
+    if number == 20 {
+        let above: Vec<usize> = (0..row.len()).filter(|i| row[*i] > most).collect();
+        if let [place] = above[..] {
+            all.push(format!("refused 20 for {} alone", area_of_place(g, place)));
+        }
+        if highest == most + 1 {
+            all.push("refused 20, one too high".to_string());
+        }
+    }
+    all
+}
+
 /// What is special in a sheet that was read, or which name it was refused for.
 fn of_sheet(text: &[u8], number: u32, place: u64) -> Vec<String> {
     match number {
@@ -245,6 +310,7 @@ fn of_geometry(g: Geometry, number: u32) -> Option<&'static str> {
 fn answers(asked: &Call, number: u32, after: &Call) -> Vec<String> {
     let mut all = match after {
         Call::PowerUp { answer, .. } if answer.len() == 6 => of_power_up(number, answer),
+        Call::PowerUpCounted { answer, .. } if answer.len() == 7 => of_power_up(number, &answer[..6]),
         Call::Mend { flash, numbers, .. } if numbers.len() == 3 => of_mend(flash, number, numbers),
         Call::NextTag { tag, .. } if number == 0 => vec![of_tag(tag)],
         _ => vec![answered(number)],
@@ -259,6 +325,15 @@ fn answers(asked: &Call, number: u32, after: &Call) -> Vec<String> {
         let behind = if image.len() as u64 > HEADER as u64 + numbers[1] { "bytes" } else { "nothing" };
         all.push(format!("done, {behind} behind the firmware"));
     }
+    match (asked, after) {
+        (Call::PowerUpCounted { g, row, total, .. }, Call::PowerUpCounted { row: left, .. })
+        | (Call::ArmCounted { g, row, total, .. }, Call::ArmCounted { row: left, .. })
+            if number != 1 =>
+        {
+            all.extend(of_counts(*g, number, row, *total, left));
+        }
+        _ => {}
+    }
     if let Some(what) = asked.geometry().and_then(|g| of_geometry(g, number)) {
         all.push(what.to_string());
     }
@@ -269,6 +344,45 @@ fn answers(asked: &Call, number: u32, after: &Call) -> Vec<String> {
 }
 
 // ---- what has to be met
+
+/// Of both calls that count erases.
+const COUNTS: [&str; 21] = [
+    "refused  1",
+    "refused 10",
+    "refused 19",
+    "refused 20",
+    "refused 19, one too low",
+    "refused 19, one too high",
+    "refused 19, the low half of the sum",
+    "refused 19, another total",
+    "refused 19, a count too high",
+    "refused 20, one too high",
+    "refused 20 for BOOT alone",
+    "refused 20 for BOOT's trailer alone",
+    "refused 20 for UPDATE alone",
+    "refused 20 for UPDATE's trailer alone",
+    "refused 20 for SWAP alone",
+    "erases counted",
+    "no erase",
+    "a count as high as may be",
+    "a total above 32 bits",
+    "of 512 sectors",
+    "of 511 sectors, the trailer full",
+];
+
+/// Of the power-ups alone.
+const COUNTED_POWER_UPS: [&str; 10] = [
+    "cut",
+    "run",
+    "run on test",
+    "run, fallen back",
+    "refused 11",
+    "refused 12, erases counted",
+    "refused 13 for 9",
+    "turned down, cut",
+    "turned down, run",
+    "a count becomes 4294967295",
+];
 
 /// Of the mends that follow an exchange, beside the random ones.
 const MENDS: [&str; 33] = [
@@ -429,7 +543,7 @@ fn critical_to_meet() -> Vec<(u16, &'static str, &'static str)> {
 }
 
 fn answers_to_meet() -> Vec<String> {
-    let numbers: [(&str, &[u32]); 12] = [
+    let numbers: [(&str, &[u32]); 14] = [
         ("sha256", &[0, 1]),
         ("read_header", &[0, 1, 2, 3, 4, 5, 6, 7, 8, 16, 18]),
         ("write_header", &[0, 1, 3, 16]),
@@ -442,6 +556,8 @@ fn answers_to_meet() -> Vec<String> {
         ("arm", &[0, 1, 10, 14]),
         ("confirm", &[0, 1, 10, 11, 14]),
         ("mend", &[0, 1, 10, 14, 17]),
+        ("power_up_counted", &[1, 10, 11, 19, 20]),
+        ("arm_counted", &[0, 1, 10, 14, 19, 20]),
     ];
     let others = [
         "next_tag: tag of the table",
@@ -456,22 +572,27 @@ fn answers_to_meet() -> Vec<String> {
         "read_sheet: done, without the last line's end",
         "check_firmware: done, nothing behind the firmware",
         "check_firmware: done, bytes behind the firmware",
-        "power_up: cut",
-        "power_up: run",
-        "power_up: run on test",
-        "power_up: run, fallen back",
-        "power_up: refused 12 after operations",
-        "power_up: turned down for 15",
-        "power_up: turned down, cut",
-        "power_up: turned down, run",
-        "power_up: turned down, refused 12",
+    ];
+    let power_ups = [
+        "cut",
+        "run",
+        "run on test",
+        "run, fallen back",
+        "refused 12 after operations",
+        "turned down for 15",
+        "turned down, cut",
+        "turned down, run",
+        "turned down, refused 12",
     ];
     let mut all: Vec<String> = others.iter().map(|what| what.to_string()).collect();
+    for call in ["power_up", "power_up_counted"] {
+        all.extend(power_ups.iter().map(|what| format!("{call}: {what}")));
+    }
     for (call, answers) in numbers {
         all.push(format!("{call}: on long buffers"));
         all.extend(answers.iter().map(|n| format!("{call}: {}", answered(*n))));
     }
-    for call in ["check_image", "power_up", "arm", "confirm", "mend"] {
+    for call in ["check_image", "power_up", "arm", "confirm", "mend", "power_up_counted", "arm_counted"] {
         for what in ["of 512 sectors", "of 511 sectors, the trailer full", "refused 1 for the trailer"] {
             all.push(format!("{call}: {what}"));
         }
@@ -482,15 +603,17 @@ fn answers_to_meet() -> Vec<String> {
         all.push(format!("read_sheet: refused 104 for {name}"));
     }
     for inner in (2..=9).chain([18]) {
-        all.push(format!("power_up: refused 12 for {inner}"));
-        all.push(format!("power_up: refused 13 for {inner}"));
-        all.push(format!("power_up: turned down for {inner:2}"));
+        for call in ["power_up", "power_up_counted"] {
+            all.push(format!("{call}: refused 12 for {inner}"));
+            all.push(format!("{call}: refused 13 for {inner}"));
+            all.push(format!("{call}: turned down for {inner:2}"));
+        }
     }
     all
 }
 
 fn lengths_to_meet() -> Vec<(String, &'static str)> {
-    let buffers: [(&str, &[&str]); 12] = [
+    let buffers: [(&str, &[&str]); 14] = [
         ("sha256", &["digest"]),
         ("read_header", &["numbers", "bytes"]),
         ("write_header", &["bytes", "place"]),
@@ -503,6 +626,8 @@ fn lengths_to_meet() -> Vec<(String, &'static str)> {
         ("arm", &["boot", "update", "swap", "count"]),
         ("confirm", &["boot", "update", "swap", "count"]),
         ("mend", &["boot", "update", "swap", "numbers"]),
+        ("power_up_counted", &["boot", "update", "swap", "row", "answer"]),
+        ("arm_counted", &["boot", "update", "swap", "row", "answer"]),
     ];
     let mut all = Vec::new();
     for (call, names) in buffers {

@@ -77,6 +77,47 @@ impl Buffers {
     }
 }
 
+/// The service sheet: how often each sector was erased, those of BOOT first, then those of UPDATE, then SWAP; and all together.
+struct Counts {
+    geometry: Geometry,
+    row: Vec<u32>,
+    total: u64,
+}
+
+impl Counts {
+    /// Those of a new flash.
+    fn new(geometry: Geometry) -> Counts {
+        Counts { geometry, row: vec![0; geometry.row_length()], total: 0 }
+    }
+
+    /// Behind a loss of power, which leaves no answer: what the completed erases come to.
+    fn add_up(&mut self) {
+        self.total = self.row.iter().copied().map(u64::from).sum();
+    }
+
+    /// The counts of BOOT, of UPDATE and of SWAP.
+    fn areas(&self) -> [(&'static str, &[u32]); 3] {
+        let (boot, others) = self.row.split_at(self.geometry.sectors());
+        let (update, swap) = others.split_at(self.geometry.sectors());
+        [("BOOT", boot), ("UPDATE", update), ("SWAP", swap)]
+    }
+
+    fn lines(&self) -> String {
+        let mut text = String::new();
+        for (area, counts) in self.areas() {
+            text.extend(counts.iter().enumerate().map(|(number, erases)| format!("{area} {number} {erases}\n")));
+        }
+        format!("{text}total {}\n", self.total)
+    }
+
+    fn json(&self) -> Json {
+        let list = |counts: &[u32]| Json::List(counts.iter().map(|erases| Json::Number((*erases).into())).collect());
+        let [(_, boot), (_, update), (_, swap)] = self.areas();
+        let fields = [("boot", list(boot)), ("update", list(update)), ("swap", list(swap)), ("total", Json::Number(self.total))];
+        Json::object(fields)
+    }
+}
+
 /// What was done to the flash, and what it shows then.
 struct Step {
     what: String,
@@ -178,6 +219,35 @@ struct Plan {
     fall_back: bool,
 }
 
+/// What it is played on: the flash, and the service sheet if one is asked for.
+struct Printer {
+    buffers: Buffers,
+    counts: Option<Counts>,
+}
+
+impl Printer {
+    fn arm(&mut self) -> Result<Result<u64, Refusal>, Stop> {
+        let mut flash = self.buffers.flash()?;
+        Ok(match &mut self.counts {
+            None => flash.arm(),
+            Some(counts) => flash.arm_counted(&mut counts.row, &mut counts.total),
+        })
+    }
+
+    fn power_up(&mut self, budget: u64) -> Result<PowerUp, Stop> {
+        let mut flash = self.buffers.flash()?;
+        let counts = match &mut self.counts {
+            None => return Ok(flash.power_up_within(budget)),
+            Some(counts) => counts,
+        };
+        let answer = flash.power_up_counted_within(budget, &mut counts.row, &mut counts.total);
+        if answer.outcome == Outcome::Cut {
+            counts.add_up();
+        }
+        Ok(answer)
+    }
+}
+
 impl Plan {
     fn of(given: &Parsed) -> Result<Plan, Stop> {
         let cuts: Result<Vec<u64>, Stop> = given.every("--cut").map(|text| given.number("--cut", text)).collect();
@@ -193,9 +263,10 @@ impl Plan {
     }
 
     /// A power-up, and where it ran on test the confirming that was asked for. Whether one more is needed: it was cut.
-    fn power_up(&self, buffers: &mut Buffers, budget: u64, steps: &mut Vec<Step>) -> Result<Outcome, Stop> {
-        let before = buffers.clone();
-        let answer = buffers.flash()?.power_up_within(budget);
+    fn power_up(&self, printer: &mut Printer, budget: u64, steps: &mut Vec<Step>) -> Result<Outcome, Stop> {
+        let before = printer.buffers.clone();
+        let answer = printer.power_up(budget)?;
+        let buffers = &mut printer.buffers;
         let number = steps.iter().filter(|step| step.what.starts_with("power-up")).count() + 1;
         let mut torn = None;
         if answer.outcome == Outcome::Cut && self.torn {
@@ -213,18 +284,18 @@ impl Plan {
     }
 
     /// Everything that happens, from arming on.
-    fn play(&self, buffers: &mut Buffers) -> Result<Vec<Step>, Stop> {
-        let answer = buffers.flash()?.arm();
-        let mut steps = vec![Step::command(buffers, "arm", answer)?];
+    fn play(&self, printer: &mut Printer) -> Result<Vec<Step>, Stop> {
+        let answer = printer.arm()?;
+        let mut steps = vec![Step::command(&mut printer.buffers, "arm", answer)?];
         let mut last = Outcome::Cut;
         for cut in &self.cuts {
-            last = self.power_up(buffers, *cut, &mut steps)?;
+            last = self.power_up(printer, *cut, &mut steps)?;
         }
         if last == Outcome::Cut {
-            last = self.power_up(buffers, u64::MAX, &mut steps)?;
+            last = self.power_up(printer, u64::MAX, &mut steps)?;
         }
         if last == Outcome::RunOnTest && self.fall_back {
-            self.power_up(buffers, u64::MAX, &mut steps)?;
+            self.power_up(printer, u64::MAX, &mut steps)?;
         }
         Ok(steps)
     }
@@ -247,27 +318,31 @@ pub fn run(given: &Parsed) -> Result<Said, Stop> {
         Ok(geometry) => geometry,
     };
     let (boot, update) = (image(boot)?, image(update)?);
-    let mut buffers = Buffers::new(geometry, &boot, &update);
-    let steps = plan.play(&mut buffers)?;
+    let counts = given.has("--counts").then(|| Counts::new(geometry));
+    let mut printer = Printer { buffers: Buffers::new(geometry, &boot, &update), counts };
+    let steps = plan.play(&mut printer)?;
     let mut notes = vec![];
     for step in &steps {
         notes.extend(step.turned_down.iter().map(|r| in_words(&format!("{}: the update is turned down", step.what), r)));
         notes.extend(step.refused.iter().map(|r| in_words(&step.what, r)));
     }
     let status = if notes.is_empty() { GOOD } else { REFUSED };
-    let held = Image::check_partition(geometry, &buffers.boot);
+    let held = Image::check_partition(geometry, &printer.buffers.boot);
     let out = if given.json() {
         let held = match &held {
             Ok(image) => Json::object([("good", Json::Bool(true)), ("version", Json::Number(image.header().version.into()))]),
             Err(refusal) => Json::object([("good", Json::Bool(false)), ("why", Json::refusal(refusal))]),
         };
-        line(Json::object([("steps", Json::List(steps.iter().map(Step::json).collect())), ("boot_holds", held)]))
+        let counts = printer.counts.as_ref().map_or(Json::Null, Counts::json);
+        let steps = Json::List(steps.iter().map(Step::json).collect());
+        line(Json::object([("steps", steps), ("boot_holds", held), ("counts", counts)]))
     } else {
         let held = match &held {
             Ok(image) => format!("version {}, good", image.header().version),
             Err(refusal) => format!("no good image, {refusal}"),
         };
-        format!("{}BOOT holds {held}\n", steps.iter().map(Step::line).collect::<String>())
+        let counts = printer.counts.as_ref().map_or(String::new(), Counts::lines);
+        format!("{}BOOT holds {held}\n{counts}", steps.iter().map(Step::line).collect::<String>())
     };
     Ok(Said { out, notes, status })
 }
