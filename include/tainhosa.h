@@ -370,7 +370,7 @@ TAINHOSA_CALL uint32_t tainhosa_mend(size_t sectors, size_t size,
 #define TAINHOSA_ROW_UPDATE(sectors, i) ((sectors) + (i))
 #define TAINHOSA_ROW_SWAP(sectors) (2 * (sectors))
 
-/* What a counted power-up answers: a row of 7, the 6 of a power-up and then the total that goes out. */
+/* What a counted power-up answers: 7 numbers, the 6 of a power-up and then the total that goes out. */
 #define TAINHOSA_COUNTED_NUMBERS 7
 #define TAINHOSA_COUNTED_TOTAL 6
 
@@ -380,7 +380,7 @@ TAINHOSA_CALL uint32_t tainhosa_mend(size_t sectors, size_t size,
  * total that comes in has to be the sum of the row, and answer[TAINHOSA_COUNTED_TOTAL] is the sum of the row as it is left: hand it in
  * with the next call. Where power is lost, it is the caller's part that the row counts the erases that were completed, and no other; the
  * total handed in next is then its sum.
- * Refused with 1 (as a power-up, or the row has another length), 19 (the total is not the row's sum) or 20 (some count, of any sector,
+ * Refused with 1 (as a power-up, or the row of counts has another length), 19 (the total is not the row's sum) or 20 (some count, of any sector,
  * is greater than 4294967295 - (sectors - 1), so that it might not fit 32 bits in the end): flash and row stay as they were, the count
  * is 0, and the total goes out as it came in. Then with what a power-up refuses behind 1: the total is the row's sum, and the erases
  * before a 12 stay counted.
@@ -393,7 +393,7 @@ TAINHOSA_CALL uint32_t tainhosa_power_up_counted(size_t sectors, size_t size,
                                                  uint32_t *row, size_t row_length, uint64_t total,
                                                  uint64_t *answer, size_t answer_length);
 
-/* What a counted arm answers: a row of 2, the count of an arm and then the total that goes out. */
+/* What a counted arm answers: 2 numbers, the count of an arm and then the total that goes out. */
 #define TAINHOSA_COUNTED_COMMAND_NUMBERS 2
 #define TAINHOSA_COUNTED_COMMAND_TOTAL 1
 

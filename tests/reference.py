@@ -432,7 +432,7 @@ def places(n):
 
 
 def counted_flash(n, s, boot, update, swap, row, total):
-    """The flash, if no check of a counted call but the status bytes' has refused; these come last."""
+    """The flash, where 1, 19 and 20 do not refuse: the checks that come first."""
     if not geometry_fits(n, s) or [len(boot), len(update), len(swap)] != [n * s, n * s, s] or len(row) != 2 * n + 1:
         raise Refused(1)
     if total != sum(row):

@@ -144,14 +144,14 @@ pub const MEANINGS: [Meaning; 25] = [
         Place::Nothing,
         "the total is not the sum of the erase counts",
         "The counts or their total were damaged, or the two are not of the same moment: nothing was done. Where power was lost, hand in \
-         the sum of the counts of the erases that were completed. Otherwise take both from the last good service sheet.",
+         the sum of the row. Otherwise take both from the last good service sheet; the erases since then are missing from it.",
     ),
     row(
         20,
         Place::Nothing,
         "an erase count is too high: a power-up might bring it above 4294967295",
-        "With so many sectors before the trailer as m, no count may be above 4294967295 - m. No flash is erased so often: the counts were \
-         damaged, or are not this printer's. Take them from the last good service sheet.",
+        "With m sectors before the trailer, no count may be above 4294967295 - m. No flash is erased so often: the counts were damaged, or \
+         are not this printer's. Take them from the last good service sheet; the erases since then are missing from it.",
     ),
     row(
         101,

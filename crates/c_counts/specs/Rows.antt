@@ -4,7 +4,8 @@ use mathlib.Core.List.{List, [], _∷_, _++_}
 use Rattle.numbers.specs.Answer.{Answer}
 use Rattle.numbers.specs.declared.Refused.{Refused}
 use Rattle.c_power_up.specs.declared.Ended.{Ended}
-use Rattle.c_power_up.specs.Outcomes.{countOf, powerRow}
+use Rattle.numbers.specs.GivenBack.{countOf}
+use Rattle.c_power_up.specs.Outcomes.{powerRow}
 
 -- Of a counted power-up: the six numbers of a power-up, and the total that goes out.
 abbrev pub countedPowerRow : Ended → ℕ → Refused → ℕ → List ℕ

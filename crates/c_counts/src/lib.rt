@@ -3,8 +3,8 @@ use c_power_up::Ended;
 use counts_arm::CountedCommand;
 use counts_power_up::CountedOutcome;
 ghost use mathlib.Core.Path.{_≡_};
-ghost use Rattle.numbers.specs.GivenBack.{refusalOf};
-ghost use Rattle.c_power_up.specs.Outcomes.{endedOf, countOf};
+ghost use Rattle.numbers.specs.GivenBack.{refusalOf, countOf};
+ghost use Rattle.c_power_up.specs.Outcomes.{endedOf};
 ghost use Rattle.counts_power_up.specs.Delivered.{countedOutcomeOf};
 ghost use Rattle.counts_arm.specs.Delivered.{countedCommandOf};
 

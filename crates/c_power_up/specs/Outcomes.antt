@@ -1,7 +1,6 @@
 -- The numbers by which a C caller gets what power-up, arm and confirm answer, and the row of a power-up.
 use Prim.Native.Nat.{ℕ}
 use mathlib.Core.List.{List, [], _∷_}
-use Rattle.numbers.specs.Answer.{Answer, gives, refused}
 use Rattle.numbers.specs.declared.Refused.{Refused}
 use Rattle.numbers.specs.declared.RefusedInside.{RefusedInside}
 use Rattle.numbers.specs.GivenBack.{threeNumbers}
@@ -23,11 +22,6 @@ endedOf cut = ended 1
 endedOf runs = ended 2
 endedOf runsOnTest = ended 3
 endedOf runsFallenBack = ended 4
-
--- The number of operations done; a refusal counts 0.
-abbrev pub countOf : Answer ℕ → ℕ
-countOf (gives n) = n
-countOf (refused n p) = 0
 
 -- Of a power-up: outcome, count, inner number and place, the reason's number and place.
 abbrev pub powerRow : Ended → ℕ → Refused → List ℕ

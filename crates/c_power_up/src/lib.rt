@@ -3,10 +3,10 @@ use exchange_commands::CommandAnswer;
 use numbers::RefusedInside;
 use power_up::Outcome;
 ghost use mathlib.Core.Path.{_≡_};
-ghost use Rattle.numbers.specs.GivenBack.{refusalOf};
+ghost use Rattle.numbers.specs.GivenBack.{refusalOf, countOf};
 ghost use Rattle.exchange_commands.specs.Numbers.{commandOf};
 ghost use Rattle.power_up.specs.Delivered.{outcomeOf};
-ghost use Rattle.c_power_up.specs.Outcomes.{ended, endedRefused, endedOf, countOf};
+ghost use Rattle.c_power_up.specs.Outcomes.{ended, endedRefused, endedOf};
 
 // How a power-up ended: its outcome, and of a refusal the number, and the own number and place of a bad image within it.
 pub struct Ended {

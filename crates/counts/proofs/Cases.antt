@@ -46,7 +46,10 @@ ups = (
                           record { outcome = refl; count = refl; row = refl; total = refl },
                           (
                             record { outcome = refl; count = refl; row = refl; total = refl },
-                            tt,
+                            (
+                              record { outcome = refl; count = refl; row = refl; total = refl },
+                              tt,
+                            ),
                           ),
                         ),
                       ),

@@ -10,6 +10,7 @@ use native.Mathlib.Omega.{arith}
 use lib.ListN.{length, getD, List·getD-eq-default}
 use borrow.Author.Tests.{eq-eqb, ne-eqb}
 use Rattle.numbers.specs.Answer.{Answer, gives, refused, numbered}
+use Rattle.numbers.specs.GivenBack.{countOf}
 use Rattle.numbers.specs.Every.{Every}
 use Rattle.flash.specs.declared.Geometry.{Geometry}
 use Rattle.flash.specs.Sizes.{firmware, Limits}
@@ -30,7 +31,7 @@ use Rattle.exchange.proofs.RuledOut.{ruled-out}
 use Rattle.exchange_front.proofs.Ordered.{Ordered, next-ordered}
 use Rattle.counts.specs.Row.{rowLength, slot, raised, sum, checkRow}
 use Rattle.counts.specs.Calls.{Counted, checkCounted, counted, countedPowerUp, armDone, countedArm}
-use Rattle.counts.specs.Claims.{erasesAt, CountsDone, whereTaken, countOf, PowerUpCounts, ArmCounts, NoPlaceMoreThanM, RoomForM, Within32, StaysWithin32, ChecksFirst, RefusedInOrder}
+use Rattle.counts.specs.Claims.{erasesAt, CountsDone, whereTaken, PowerUpCounts, ArmCounts, NoPlaceMoreThanM, RoomForM, Within32, StaysWithin32, ChecksFirst, RefusedInOrder}
 use Rattle.counts.proofs.Places.{slot-below}
 use Rattle.counts.proofs.Rows.{length-raised, raised-place, SlotBelow, sum-raised, none-above, one-above}
 use Rattle.counts.proofs.ToCome.{place-once, no-more-than-m}

@@ -1,4 +1,5 @@
--- What is claimed of the row, of the checks and of the counted calls. Each statement is proved in proofs/.
+-- Document 02, "Erase counts for the service sheet": what is claimed of the row, of the checks and of the counted calls. Each statement is
+-- proved in proofs/.
 use mathlib.Core.Path.{_≡_}
 use mathlib.Core.Logic.{_≢_}
 use mathlib.Core.Bool.{true, false, cond}
@@ -8,6 +9,7 @@ use Prim.Native.Nat.{ℕ, suc, _+_, _≤_, _<_}
 use lib.ListN.{length, getD, replicate}
 use lib.Dec.{eqb}
 use Rattle.numbers.specs.Answer.{Answer, gives, refused, numbered}
+use Rattle.numbers.specs.GivenBack.{countOf}
 use Rattle.flash.specs.declared.Geometry.{Geometry}
 use Rattle.flash.specs.declared.SectorNumber.{SectorNumber}
 use Rattle.flash.specs.Sizes.{firmware, Limits}
@@ -97,10 +99,6 @@ abbrev pub whereTaken : Answer (Unit {0}) → List Operation → List Operation
 whereTaken (gives t) os = os
 whereTaken (refused n p) os = []
 
-abbrev pub countOf : Answer ℕ → ℕ
-countOf (gives n) = n
-countOf (refused n p) = 0
-
 -- Each call, whatever it is lent: its operations are those that the uncounted call does.
 abbrev pub PowerUpCounts : Type 0
 PowerUpCounts =
@@ -133,7 +131,7 @@ pub record StaysWithin32 : Type 0 where
 
 -- ---- the refusals, in their order
 
--- A refusal with number n: nothing is done, and row and total go back as they came.
+-- A call that is refused with the answer a: row and total go back as they came.
 abbrev pub handsBack : {A : Type 0} → A → List ℕ → ℕ → Counted A
 handsBack a row total = record { own = a; row = row; total = total }
 

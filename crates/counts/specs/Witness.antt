@@ -1,4 +1,5 @@
--- The counted calls on three sectors of 256, computed: m = 2, a row of 7. Proved in proofs/.
+-- Document 02, "Erase counts for the service sheet": the counted calls on three sectors of 256, computed: m = 2, a row of 7. Proved in
+-- proofs/.
 use mathlib.Core.Path.{_≡_}
 use mathlib.Core.List.{List, [], _∷_}
 use Prim.Native.Nat.{ℕ}
@@ -20,7 +21,7 @@ firstByte g l = gives (getD l 0 0)
 abbrev pub versions12 : ℕ → ℕ → Flash
 versions12 b u = flash (set (set (erased 768) 0 1) 767 b) (set (set (erased 768) 0 2) 767 u) (erased 256)
 
--- An update over SUCCESS; a fallback; at rest; and a status byte that BOOT may not hold.
+-- An update over SUCCESS; a fallback; at rest; a status byte that BOOT may not hold; and an update of the same version.
 abbrev pub ready : Flash
 ready = versions12 0x00 0x70
 
@@ -32,6 +33,9 @@ resting = versions12 0x00 0xFF
 
 abbrev pub spoiled : Flash
 spoiled = versions12 0x70 0x70
+
+abbrev pub notNewer : Flash
+notNewer = flash (set (set (erased 768) 0 2) 767 0x00) (set (set (erased 768) 0 2) 767 0x70) (erased 256)
 
 -- ---- power-up
 
@@ -71,6 +75,8 @@ powerUpCases =
     ∷ with-budget ready 3 zeros 0 cut 3 (0 ∷ 0 ∷ 0 ∷ 0 ∷ 0 ∷ 0 ∷ 1 ∷ []) 1
     ∷ with-budget ready 4 zeros 0 cut 4 (0 ∷ 0 ∷ 0 ∷ 1 ∷ 0 ∷ 0 ∷ 1 ∷ []) 2
     ∷ with-budget ready 0 zeros 0 cut 0 zeros 0
+    -- an update that is turned down: the erase of UPDATE's trailer
+    ∷ with-budget notNewer 100 zeros 0 runs 1 (0 ∷ 0 ∷ 0 ∷ 0 ∷ 0 ∷ 1 ∷ 0 ∷ []) 1
     -- no operation, and no count
     ∷ with-budget resting 100 zeros 0 runs 0 zeros 0
     -- a row of six; a total that is wrong; both wrong

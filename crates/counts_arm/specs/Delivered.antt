@@ -1,4 +1,4 @@
--- What the counted arm promises: the rules of `counts`, and 01's numbers for each case of the code's answers.
+-- What the counted arm promises: the rules of `counts`, and the papers' numbers for each case of the code's answers.
 use mathlib.Core.List.{List}
 use Prim.Native.Nat.{ℕ}
 use Rattle.numbers.specs.Answer.{Answer, refused}

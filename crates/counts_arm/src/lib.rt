@@ -21,7 +21,7 @@ ghost use Rattle.counts.specs.Row.{rowLength, raised};
 ghost use Rattle.counts.specs.Calls.{armDone, countedArm};
 ghost use Rattle.counts.specs.Claims.{RoomForM};
 ghost use Rattle.counts_arm.specs.Delivered.{countedCommanded};
-ghost use Rattle.counts_arm.specs.Inner.{withTotal};
+ghost use Rattle.counts_arm.specs.Inner.{withTotal, refusedAnswer};
 
 // Arm's own answer; or the row or the total is refused.
 pub enum CountedCommand {
@@ -75,6 +75,16 @@ fn with_total(a: CommandAnswer, total: u64) -> CountedArmAnswer
     }
 }
 
+// Refused for the row or the total.
+fn refused(r: RowRefusal, total: u64) -> CountedArmAnswer
+    ensures { λ a. ⌜ a ≡ refusedAnswer r total ⌝ }
+{
+    CountedArmAnswer {
+        answer: CountedCommand::Counts(r),
+        total,
+    }
+}
+
 // Arms the update that stands in UPDATE, and counts the erase. Any numbers, lengths, bytes and counts are taken.
 pub fn arm_counted(
     sectors: usize,
@@ -99,10 +109,7 @@ pub fn arm_counted(
                 CommandAnswer::Refused(CommandRefusal::OutsideRules),
                 total,
             ),
-            RowAnswer::Refused(r) => CountedArmAnswer {
-                answer: CountedCommand::Counts(r),
-                total,
-            },
+            RowAnswer::Refused(r) => refused(r, total),
         },
         GeometryAnswer::Outside => with_total(
             CommandAnswer::Refused(CommandRefusal::OutsideRules),

@@ -1,5 +1,5 @@
--- What the counted power-up promises: the rules of `counts` with the delivered image check, and 01's numbers for each case of the code's
--- answers.
+-- What the counted power-up promises: the rules of `counts` with the delivered image check, and the papers' numbers for each case of the
+-- code's answers.
 use mathlib.Core.Path.{_≡_}
 use mathlib.Core.List.{List}
 use Prim.Native.Nat.{ℕ}
@@ -22,11 +22,11 @@ countedOutcomeOf (PowerUp o) = outcomeOf o
 countedOutcomeOf (Counts r) = refusal (numbered (rowNumber r) 0)
 
 -- What a counted power-up answers and leaves: of its answer all but the total is power-up's.
-abbrev pub ownOf : CountedAnswer → Flash → power-up.PowerUp
-ownOf a f = record { outcome = countedOutcomeOf (a .outcome); reason = reasonOf (a .reason); count = a .count; flash = f }
+abbrev pub ownPart : CountedAnswer → Flash → power-up.PowerUp
+ownPart a f = record { outcome = countedOutcomeOf (a .outcome); reason = reasonOf (a .reason); count = a .count; flash = f }
 
 abbrev pub countedAnswered : CountedAnswer → Flash → List ℕ → Counted power-up.PowerUp
-countedAnswered a f row = record { own = ownOf a f; row = row; total = a .total }
+countedAnswered a f row = record { own = ownPart a f; row = row; total = a .total }
 
 -- The contract of `power_up_counted`: asked for this many sectors of this size, lent the flash f and the row, and handed the budget and the
 -- total, the call gives this answer and leaves the flash f′ and row′. The rules decide all of it.

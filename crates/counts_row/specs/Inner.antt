@@ -10,7 +10,7 @@ use Rattle.counts_row.specs.declared.RowAnswer.the-variants.{Counts, Oth
 use Rattle.counts_row.specs.declared.Slot.{Slot}
 use Rattle.counts_row.specs.declared.Slot.the-variants.{Place, None}
 
--- what the checks of a row and its total find, by 01's numbers
+-- what the checks of a row and its total find, by the papers' numbers
 abbrev pub rowSays : RowAnswer → Answer (Unit {0})
 rowSays Counts = gives tt
 rowSays OtherLength = refused 1 0

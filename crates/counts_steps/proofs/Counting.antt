@@ -36,36 +36,36 @@ pub counted-none : (g : Geometry) (n : Next) (row : List ℕ) → n ≡ Nothing 
 counted-none g n row e = rw e refl
 
 -- what the row becomes by the steps that are left
-abbrev pub rowLeft : Job → Geometry → Progress → Flash → List ℕ → List ℕ
-rowLeft job g at f row = raised g (operations job g (at .left) (at .phase) f) row
+abbrev pub rowToCome : Job → Geometry → Progress → Flash → List ℕ → List ℕ
+rowToCome job g at f row = raised g (operations job g (at .left) (at .phase) f) row
 
 module _ (job : Job) (g : Geometry) where
   pub row-start : (budget : ℕ) (f : Flash) (row : List ℕ) (at : Progress) → at ≡ begun g (f .update) budget
-      → rowLeft job g at f row ≡ raised g (operations job g budget 0 f) row
-  row-start budget f row at e = ap (λ (x : Progress). rowLeft job g x f row) e
+      → rowToCome job g at f row ≡ raised g (operations job g budget 0 f) row
+  row-start budget f row at e = ap (λ (x : Progress). rowToCome job g x f row) e
 
   module _ (budget : ℕ) (at : Progress) (f f′ : Flash) (r : StepAnswer) (s : stepped r f′ ≡ step job g (at .phase) f) (row row′ : List ℕ) (c : row′ ≡ raiseNext g (r .next) row) where
     -- a turn
     pub row-on : (o : Operation) → r .next ≡ Do o → r .progress ≡ progressScanned g (f′ .update) (r .next) at → 0 < at .left
-        → rowLeft job g (r .progress) f′ row′ ≡ rowLeft job g at f row
+        → rowToCome job g (r .progress) f′ row′ ≡ rowToCome job g at f row
     row-on o e q h =
         let k : at .left ≡ suc (at .left - 1) = omega arith in
         let d : r .progress ≡ progressScanned g (f′ .update) (Do o) at = q ∙ ap (λ (t : Next). progressScanned g (f′ .update) t at) e in
         let x : f′ ≡ perform g o f = flash-is job g budget at f f′ r s ∙ ap (λ (t : Next). performNext g t f) e in
         let y : row′ ≡ raise (slot g o) row = c ∙ ap (λ (t : Next). raiseNext g t row) e in
-        ap₂ (λ (z : Progress) (w : List ℕ). rowLeft job g z f′ w) d y
+        ap₂ (λ (z : Progress) (w : List ℕ). rowToCome job g z f′ w) d y
         ∙ ap (λ (z : Flash). raised g (operations job g (at .left - 1) (phaseAfter o) z) (raise (slot g o) row)) x
         ∙ ap (λ (os : List Operation). raised g os row)
         (sym (ap (λ (n : ℕ). operations job g n (at .phase) f) k ∙ operations-some job g (at .left - 1) (at .phase) f o (sym (next-is job g budget at f f′ r s) ∙ e)))
 
     -- nothing is next
-    pub row-over : r .next ≡ Nothing → row′ ≡ rowLeft job g at f row
+    pub row-over : r .next ≡ Nothing → row′ ≡ rowToCome job g at f row
     row-over e =
         c ∙ ap (λ (t : Next). raiseNext g t row) e
         ∙ ap (λ (os : List Operation). raised g os row) (sym (operations-none job g (at .left) (at .phase) f (sym (next-is job g budget at f f′ r s) ∙ e)))
 
   -- the budget is used up
-  pub row-spent : (at : Progress) (f : Flash) (row : List ℕ) → at .left ≡ 0 → row ≡ rowLeft job g at f row
+  pub row-spent : (at : Progress) (f : Flash) (row : List ℕ) → at .left ≡ 0 → row ≡ rowToCome job g at f row
   unfolding operations
   row-spent at f row h = ap (λ (n : ℕ). raised g (operations job g n (at .phase) f) row) (sym h)
 
@@ -80,7 +80,7 @@ module _ (job : Job) (g : Geometry) where
           omega (arith, w k, h, ap (raisesAt k) e, raises-here k k refl)
       by (no b) = omega (arith, List·getD-eq-default row 0 {n = k} (omega arith))
 
-  pub room-next : (at : Progress) (f : Flash) (row : List ℕ) → Limits g → Current g (f .update) at → 0 < at .left → Within32 (rowLeft job g at f row)
+  pub room-next : (at : Progress) (f : Flash) (row : List ℕ) → Limits g → Current g (f .update) at → 0 < at .left → Within32 (rowToCome job g at f row)
       → RoomForNext g (nextAt job g at (f .boot) (f .update)) row
   unfolding nextOperation
   room-next at f row G k h w = subst (λ (n : Next). RoomForNext g n row) (sym (same-next job g at (f .boot) (f .update) G k)) (by (nextOperation job g (at .phase) f) refl)

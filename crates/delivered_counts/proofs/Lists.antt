@@ -18,9 +18,9 @@ use Rattle.image.specs.Verdict.{checkOf}
 use Rattle.delivered.proofs.Delivered.{reads-firmware, at}
 use Rattle.counts.specs.Row.{rowLength, sum}
 use Rattle.counts.specs.Claims.{erasesAt}
-use Rattle.delivered_counts.specs.Demand.{CountedEvent, keptPower, cutOff, geometryOf, withBudget, countedSeen, rowLeft, totalLeft, Found, foundAfter, AllowedHere, AllowedCounted, completedIn, erasesSince, CountedDemand3, CountedDemand3Ongoing}
+use Rattle.delivered_counts.specs.Demand.{CountedEvent, keptPower, cutOff, askedGeometry, withBudget, countedSeen, rowLeft, totalLeft, Found, foundAfter, AllowedHere, AllowedCounted, completedIn, Completed, erasesSince, CountedDemand3, CountedDemand3Ongoing}
 use Rattle.delivered_counts.specs.Witness.{ruled}
-use Rattle.delivered_counts.proofs.OneCall.{number-done, first-done, IsPowerUp, is-power-up}
+use Rattle.delivered_counts.proofs.OneCall.{number-done, left-by, first-done, IsPowerUp, is-power-up}
 
 -- ---- one power-up
 
@@ -29,7 +29,7 @@ pub record Ruled (g : Geometry) (s : Found) (e : CountedEvent) : Type 0 where
   pub ends : EndsAsAllowed checkOf g (s .flash) (ruled e)
   pub sameLength : length (rowLeft e) ≡ length (s .row)
   pub places : (p : ℕ) → p < length (s .row) → getD (rowLeft e) p 0 ≡ getD (s .row) p 0 + erasesAt g p (completedIn s e)
-  pub completed : length (completedIn s e) ≡ (countedSeen (s .flash) e) .done
+  pub completed : Completed s e
   pub total : s .total ≡ sum (s .row) → totalLeft e ≡ sum (rowLeft e)
 
 pub as-ruled : (x : Exchange) (g : Geometry) (s : Found) (e : CountedEvent) → fits g (s .flash) ≡ true → length (s .row) ≡ rowLength g → AllowedHere x g s e → Ruled g s e
@@ -37,11 +37,14 @@ unfolding left
 as-ruled x g s (keptPower h whole) fit long A =
     let i : IsPowerUp g (s .flash) h whole = is-power-up (s .flash) h whole (A .happens) g fit (ap length (A .sameRow) ∙ long) in
     record {
-      seen = ap (leftUntorn (geometryOf h) (h .budget)) (i .own);
+      seen = ap (leftUntorn (askedGeometry h) (h .budget)) (i .own);
       ends = tt;
       sameLength = i .sameLength ∙ ap length (A .sameRow);
       places = λ p b. subst (λ (l : List ℕ). getD (whole .row) p 0 ≡ getD l p 0 + erasesAt g p (completedIn s (keptPower h whole))) (A .sameRow) (i .places p (rw (A .sameRow) b));
-      completed = number-done (geometryOf h) (s .flash) (h .budget) ∙ sym (ap (λ (a : PowerUp). a .count) (i .own));
+      completed = record {
+        number = number-done (askedGeometry h) (s .flash) (h .budget) ∙ sym (ap (λ (a : PowerUp). a .count) (i .own));
+        leave = ap (λ (a : PowerUp). a .flash) (i .own) ∙ left-by (askedGeometry h) (s .flash) (h .budget);
+      };
       total = λ t. i .total (A .sameTotal ∙ t ∙ ap sum (sym (A .sameRow)));
     }
 as-ruled x g s (cutOff h whole k part t) fit long A =
@@ -50,11 +53,14 @@ as-ruled x g s (cutOff h whole k part t) fit long A =
     let j : IsPowerUp g (s .flash) (withBudget h k) part = is-power-up (s .flash) (withBudget h k) part (A .happens .1) g fit l in
     let n = subst (λ (a : PowerUp). k ≤ a .count) (i .own) (A .happens .2) in
     record {
-      seen = ap (λ (a : PowerUp). leftLost k (tearNext (geometryOf h) t (nextAfter checkOf (geometryOf h) (s .flash) k) (a .flash))) (j .own);
+      seen = ap (λ (a : PowerUp). leftLost k (tearNext (askedGeometry h) t (nextAfter checkOf (askedGeometry h) (s .flash) k) (a .flash))) (j .own);
       ends = (n, A .happens .3);
       sameLength = j .sameLength ∙ ap length (A .sameRow);
       places = λ p b. subst (λ (l : List ℕ). getD (part .row) p 0 ≡ getD l p 0 + erasesAt g p (completedIn s (cutOff h whole k part t))) (A .sameRow) (j .places p (rw (A .sameRow) b));
-      completed = first-done (geometryOf h) (s .flash) (h .budget) k n;
+      completed = record {
+        number = first-done (askedGeometry h) (s .flash) (h .budget) k n;
+        leave = ap (λ (a : PowerUp). a .flash) (j .own) ∙ left-by (askedGeometry h) (s .flash) k;
+      };
       total = λ s. refl;
     }
 
@@ -67,7 +73,7 @@ module _ (x : Exchange) (g : Geometry) (old : Flash) where
     sameFlash : stateAfter foundAfter s es .flash ≡ flashAfter countedSeen (s .flash) es
     sameLength : length (stateAfter foundAfter s es .row) ≡ rowLength g
     placeByPlace : (p : ℕ) → p < rowLength g → getD (stateAfter foundAfter s es .row) p 0 ≡ getD (s .row) p 0 + erasesSince g p s es
-    completedAre : Along foundAfter (λ before e after. length (completedIn before e) ≡ (countedSeen (before .flash) e) .done) s es
+    completedAre : Along foundAfter (λ before e after. Completed before e) s es
     total : s .total ≡ sum (s .row) → stateAfter foundAfter s es .total ≡ sum (stateAfter foundAfter s es .row)
 
   none-read : (s : Found) → length (s .row) ≡ rowLength g → Read s []

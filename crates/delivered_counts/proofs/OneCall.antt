@@ -12,6 +12,7 @@ use Rattle.flash.specs.declared.Geometry.{Geometry}
 use Rattle.flash.specs.Sizes.{firmware}
 use Rattle.flash.specs.Buffers.{Flash, fits}
 use Rattle.flash.proofs.Checked.{shaped-of, same-geometry}
+use Rattle.exchange.specs.Operations.{performAll}
 use Rattle.exchange.specs.Decision.{Plan, refuse, plain, work, decide}
 use Rattle.exchange.specs.PowerUp.{PowerUp, refusal, idle, powerUp, operationsIn, operationsOf}
 use Rattle.exchange.proofs.Runs.{run-count, run-within}
@@ -22,13 +23,16 @@ use Rattle.counts.specs.Calls.{Counted, checkCounted, countedPowerUp}
 use Rattle.counts.specs.Claims.{erasesAt, RoomForM, handsBack}
 use Rattle.counts.proofs.Rows.{length-raised, raised-place}
 use Rattle.counts.proofs.Claimed.{where-it-fits, unfit, total-wrong, all-right, no-place-more-than-m}
-use Rattle.counts_power_up.specs.Delivered.{countedOutcomeOf, ownOf, countedAnswered}
-use Rattle.delivered_counts.specs.Demand.{CountedGave, Handed, geometryOf, Gives}
+use Rattle.counts_power_up.specs.Delivered.{countedOutcomeOf, ownPart, countedAnswered}
+use Rattle.delivered_counts.specs.Demand.{CountedGave, Handed, askedGeometry, Gives}
 
 -- ---- the operations of a power-up
 
 pub number-done : (g : Geometry) (f : Flash) (budget : ℕ) → length (operationsOf checkOf g f budget) ≡ (powerUp checkOf g f budget) .count
 number-done g f budget = sym (ruled-out .counted checkOf g f budget)
+
+pub left-by : (g : Geometry) (f : Flash) (budget : ℕ) → (powerUp checkOf g f budget) .flash ≡ performAll g (operationsOf checkOf g f budget) f
+left-by g f budget = ruled-out .performed checkOf g f budget
 
 within-budget : (g : Geometry) (f : Flash) (budget : ℕ) → length (operationsOf checkOf g f budget) ≤ budget
 unfolding operationsOf
@@ -50,9 +54,9 @@ first-done g f budget k h =
 
 -- what it gave: power-up's answer and flash, a row of the same length with the erases place by place, and the sum where the sum was handed in
 pub record IsPowerUp (g : Geometry) (f : Flash) (h : Handed) (r : CountedGave) : Type 0 where
-  pub own : ownOf (r .answer) (r .flash) ≡ powerUp checkOf (geometryOf h) f (h .budget)
+  pub own : ownPart (r .answer) (r .flash) ≡ powerUp checkOf (askedGeometry h) f (h .budget)
   pub sameLength : length (r .row) ≡ length (h .row)
-  pub places : (p : ℕ) → p < length (h .row) → getD (r .row) p 0 ≡ getD (h .row) p 0 + erasesAt g p (operationsOf checkOf (geometryOf h) f (h .budget))
+  pub places : (p : ℕ) → p < length (h .row) → getD (r .row) p 0 ≡ getD (h .row) p 0 + erasesAt g p (operationsOf checkOf (askedGeometry h) f (h .budget))
   pub total : h .total ≡ sum (h .row) → r .answer .total ≡ sum (r .row)
 
 -- outside the rules power-up does nothing too
@@ -67,73 +71,73 @@ module _ (g : Geometry) (f : Flash) (budget : ℕ) (e : fits g f ≡ false) wher
 
 module _ (f : Flash) (h : Handed) (r : CountedGave) (k : Gives f h r) where
   -- the checks of row and total, by what they gave
-  handed-back : (n : ℕ) → checkCounted (geometryOf h) f (h .row) (h .total) ≡ refused n 0
+  handed-back : (n : ℕ) → checkCounted (askedGeometry h) f (h .row) (h .total) ≡ refused n 0
       → countedAnswered (r .answer) (r .flash) (r .row) ≡ handsBack (idle (refusal (numbered n 0)) f) (h .row) (h .total)
   unfolding countedPowerUp
   handed-back n e = k .delivers ∙ rw e refl
 
-  told : (n : ℕ) → checkCounted (geometryOf h) f (h .row) (h .total) ≡ refused n 0 → countedOutcomeOf (r .answer .outcome) ≡ refusal (numbered n 0)
+  told : (n : ℕ) → checkCounted (askedGeometry h) f (h .row) (h .total) ≡ refused n 0 → countedOutcomeOf (r .answer .outcome) ≡ refusal (numbered n 0)
   told n e = ap (λ (c : Counted PowerUp). c .own .outcome) (handed-back n e)
 
-  went-on : checkCounted (geometryOf h) f (h .row) (h .total) ≡ gives tt
+  went-on : checkCounted (askedGeometry h) f (h .row) (h .total) ≡ gives tt
       → countedAnswered (r .answer) (r .flash) (r .row)
       ≡ record {
-        own = powerUp checkOf (geometryOf h) f (h .budget);
-        row = raised (geometryOf h) (operationsOf checkOf (geometryOf h) f (h .budget)) (h .row);
-        total = sum (raised (geometryOf h) (operationsOf checkOf (geometryOf h) f (h .budget)) (h .row));
+        own = powerUp checkOf (askedGeometry h) f (h .budget);
+        row = raised (askedGeometry h) (operationsOf checkOf (askedGeometry h) f (h .budget)) (h .row);
+        total = sum (raised (askedGeometry h) (operationsOf checkOf (askedGeometry h) f (h .budget)) (h .row));
       }
   unfolding countedPowerUp
   went-on e = k .delivers ∙ rw e refl
 
   -- a geometry or length that is wrong
-  unfit-call : (g : Geometry) → fits (geometryOf h) f ≡ false → IsPowerUp g f h r
+  unfit-call : (g : Geometry) → fits (askedGeometry h) f ≡ false → IsPowerUp g f h r
   unfit-call g e =
-      let q = handed-back 1 (unfit (geometryOf h) f (h .row) (h .total) e) in
+      let q = handed-back 1 (unfit (askedGeometry h) f (h .row) (h .total) e) in
       let row-is : r .row ≡ h .row = ap (λ (c : Counted PowerUp). c .row) q in
       record {
-        own = ap (λ (c : Counted PowerUp). c .own) q ∙ outside-up (geometryOf h) f (h .budget) e;
+        own = ap (λ (c : Counted PowerUp). c .own) q ∙ outside-up (askedGeometry h) f (h .budget) e;
         sameLength = ap length row-is;
-        places = λ p b. rw (row-is, none-done (geometryOf h) f (h .budget) e) (omega arith);
+        places = λ p b. rw (row-is, none-done (askedGeometry h) f (h .budget) e) (omega arith);
         total = λ s. ap (λ (c : Counted PowerUp). c .total) q ∙ s ∙ ap sum (sym row-is);
       }
 
   -- the checks found nothing wrong
-  fit-call : (g : Geometry) → geometryOf h ≡ g → checkCounted (geometryOf h) f (h .row) (h .total) ≡ gives tt → IsPowerUp g f h r
+  fit-call : (g : Geometry) → askedGeometry h ≡ g → checkCounted (askedGeometry h) f (h .row) (h .total) ≡ gives tt → IsPowerUp g f h r
   fit-call g same e =
       let q = went-on e in
-      let os = operationsOf checkOf (geometryOf h) f (h .budget) in
-      let row-is : r .row ≡ raised (geometryOf h) os (h .row) = ap (λ (c : Counted PowerUp). c .row) q in
+      let os = operationsOf checkOf (askedGeometry h) f (h .budget) in
+      let row-is : r .row ≡ raised (askedGeometry h) os (h .row) = ap (λ (c : Counted PowerUp). c .row) q in
       record {
         own = ap (λ (c : Counted PowerUp). c .own) q;
-        sameLength = ap length row-is ∙ length-raised (geometryOf h) os (h .row);
-        places = λ p b. ap (λ (l : List ℕ). getD l p 0) row-is ∙ raised-place (geometryOf h) os (h .row) p b
+        sameLength = ap length row-is ∙ length-raised (askedGeometry h) os (h .row);
+        places = λ p b. ap (λ (l : List ℕ). getD l p 0) row-is ∙ raised-place (askedGeometry h) os (h .row) p b
             ∙ ap (λ (x : Geometry). getD (h .row) p 0 + erasesAt x p os) same;
         total = λ s. ap (λ (c : Counted PowerUp). c .total) q ∙ ap sum (sym row-is);
       }
 
   pub is-power-up : (g : Geometry) → fits g f ≡ true → length (h .row) ≡ rowLength g → IsPowerUp g f h r
-  is-power-up g fit long = by (fits (geometryOf h) f) refl
+  is-power-up g fit long = by (fits (askedGeometry h) f) refl
     where
-      inside : geometryOf h ≡ g → fits (geometryOf h) f ≡ true → IsPowerUp g f h r
+      inside : askedGeometry h ≡ g → fits (askedGeometry h) f ≡ true → IsPowerUp g f h r
       inside same e = summed-right (ℕ-discrete (sum (h .row)) (h .total))
         where
-          l : length (h .row) ≡ rowLength (geometryOf h)
+          l : length (h .row) ≡ rowLength (askedGeometry h)
           l = long ∙ ap rowLength (sym same)
 
-          room : (s : sum (h .row) ≡ h .total) (b : Bool) → someAbove (4294967295 - firmware (geometryOf h)) (h .row) ≡ b → IsPowerUp g f h r
+          room : (s : sum (h .row) ≡ h .total) (b : Bool) → someAbove (4294967295 - firmware (askedGeometry h)) (h .row) ≡ b → IsPowerUp g f h r
           room s false q =
               fit-call g same
-              (where-it-fits (geometryOf h) f (h .row) (h .total) e ∙ rw (eq-eqb (length (h .row)) (rowLength (geometryOf h)) l, eq-eqb (sum (h .row)) (h .total) s, q) refl)
+              (where-it-fits (askedGeometry h) f (h .row) (h .total) e ∙ rw (eq-eqb (length (h .row)) (rowLength (askedGeometry h)) l, eq-eqb (sum (h .row)) (h .total) s, q) refl)
           room s true q =
               absurd (k .not20 (told 20
-              (where-it-fits (geometryOf h) f (h .row) (h .total) e ∙ rw (eq-eqb (length (h .row)) (rowLength (geometryOf h)) l, eq-eqb (sum (h .row)) (h .total) s, q) refl)))
+              (where-it-fits (askedGeometry h) f (h .row) (h .total) e ∙ rw (eq-eqb (length (h .row)) (rowLength (askedGeometry h)) l, eq-eqb (sum (h .row)) (h .total) s, q) refl)))
 
           summed-right : Dec (sum (h .row) ≡ h .total) → IsPowerUp g f h r
-          summed-right (yes s) = room s (someAbove (4294967295 - firmware (geometryOf h)) (h .row)) refl
-          summed-right (no s) = absurd (k .not19 (told 19 (total-wrong (geometryOf h) f (h .row) (h .total) e l s)))
+          summed-right (yes s) = room s (someAbove (4294967295 - firmware (askedGeometry h)) (h .row)) refl
+          summed-right (no s) = absurd (k .not19 (told 19 (total-wrong (askedGeometry h) f (h .row) (h .total) e l s)))
 
-      by : (b : Bool) → fits (geometryOf h) f ≡ b → IsPowerUp g f h r
-      by true e = inside (same-geometry g (geometryOf h) f (shaped-of g f fit) (shaped-of (geometryOf h) f e)) e
+      by : (b : Bool) → fits (askedGeometry h) f ≡ b → IsPowerUp g f h r
+      by true e = inside (same-geometry g (askedGeometry h) f (shaped-of g f fit) (shaped-of (askedGeometry h) f e)) e
       by false e = unfit-call g e
 
 -- ---- where nothing is wrong with row and total

@@ -1,4 +1,4 @@
--- Demand 3 of the counted power-up. Its lists are made of calls of `power_up_counted` that gave what the contract says (`CountedDelivers`): of
+-- Document 02, "Erase counts for the service sheet": demand 3 of the counted power-up. Its lists are made of calls of `power_up_counted` that gave what the contract says (`CountedDelivers`): of
 -- an answer, bytes and a row, as a caller gets them. Flash, row and total go from one call to the next.
 use mathlib.Core.Path.{_≡_}
 use mathlib.Core.Logic.{_≢_}
@@ -10,6 +10,7 @@ use Rattle.flash.specs.declared.Geometry.{Geometry}
 use Rattle.flash.specs.Sizes.{geometry}
 use Rattle.flash.specs.Buffers.{Flash}
 use Rattle.exchange.specs.declared.Operation.{Operation}
+use Rattle.exchange.specs.Operations.{performAll}
 use Rattle.exchange.specs.PowerUp.{refusal, operationsOf, nextAfter}
 use Rattle.exchange.specs.LostPower.{Torn, tearNext}
 use Rattle.exchange.specs.Along.{stateAfter, Along, summed}
@@ -18,7 +19,7 @@ use Rattle.image.specs.Verdict.{checkOf}
 use Rattle.counts.specs.Row.{rowLength, sum}
 use Rattle.counts.specs.Claims.{erasesAt}
 use Rattle.counts_power_up.specs.declared.CountedAnswer.{CountedAnswer}
-use Rattle.counts_power_up.specs.Delivered.{countedOutcomeOf, ownOf, CountedDelivers}
+use Rattle.counts_power_up.specs.Delivered.{countedOutcomeOf, ownPart, CountedDelivers}
 
 -- What a call gave: its answer, and the flash and the row that it left.
 pub record CountedGave : Type 0 where
@@ -34,8 +35,8 @@ pub record Handed : Type 0 where
   pub row : List ℕ
   pub total : ℕ
 
-abbrev pub geometryOf : Handed → Geometry
-geometryOf h = geometry (h .sectors) (h .size)
+abbrev pub askedGeometry : Handed → Geometry
+askedGeometry h = geometry (h .sectors) (h .size)
 
 -- The same with another budget.
 abbrev pub withBudget : Handed → ℕ → Handed
@@ -70,8 +71,8 @@ Happens g f (cutOff h whole k part t) =
 -- What is seen of the flash: the answer and the bytes that the call gave; or, after a loss of power, the bytes that the same call gave with
 -- the budget k, its next operation torn.
 abbrev pub countedSeen : Flash → CountedEvent → Left
-countedSeen f (keptPower h whole) = leftUntorn (geometryOf h) (h .budget) (ownOf (whole .answer) (whole .flash))
-countedSeen f (cutOff h whole k part t) = leftLost k (tearNext (geometryOf h) t (nextAfter checkOf (geometryOf h) f k) (part .flash))
+countedSeen f (keptPower h whole) = leftUntorn (askedGeometry h) (h .budget) (ownPart (whole .answer) (whole .flash))
+countedSeen f (cutOff h whole k part t) = leftLost k (tearNext (askedGeometry h) t (nextAfter checkOf (askedGeometry h) f k) (part .flash))
 
 -- The row that is left, and the total that is handed in next. After a loss of power the row is the one that the same call gave with the
 -- budget k, which counts the k completed operations and no other; and the total handed in next is its sum.
@@ -92,8 +93,8 @@ pub record Found : Type 0 where
 abbrev pub foundAfter : Found → CountedEvent → Found
 foundAfter s e = record { flash = flashLeft countedSeen (s .flash) e; row = rowLeft e; total = totalLeft e }
 
--- The lists that 01 allows from there: each call is handed the row and the total, and finds the flash, that the last one left; none comes
--- after the finish.
+-- The lists that 01 allows from there, with row and total as 02 has it: each call is handed the row and the total, and finds the flash, that
+-- the last one left; none comes after the finish.
 pub record AllowedHere (x : Exchange) (g : Geometry) (s : Found) (e : CountedEvent) : Type 0 where
   pub notFinished : ¬ Finished x g (s .flash)
   pub sameRow : handed e .row ≡ s .row
@@ -107,8 +108,17 @@ AllowedCounted x g s es = Along foundAfter (λ before e after. AllowedHere x g b
 
 -- The operations completed in a power-up: those of the call with its budget, or the first k of them.
 abbrev pub completedIn : Found → CountedEvent → List Operation
-completedIn s (keptPower h whole) = operationsOf checkOf (geometryOf h) (s .flash) (h .budget)
-completedIn s (cutOff h whole k part t) = operationsOf checkOf (geometryOf h) (s .flash) k
+completedIn s (keptPower h whole) = operationsOf checkOf (askedGeometry h) (s .flash) (h .budget)
+completedIn s (cutOff h whole k part t) = operationsOf checkOf (askedGeometry h) (s .flash) k
+
+-- They are as many as demand 3's bound counts, and they leave the bytes that the call gave, before the operation that was torn.
+abbrev pub flashGiven : CountedEvent → Flash
+flashGiven (keptPower h whole) = whole .flash
+flashGiven (cutOff h whole k part t) = part .flash
+
+pub record Completed (s : Found) (e : CountedEvent) : Type 0 where
+  pub number : length (completedIn s e) ≡ (countedSeen (s .flash) e) .done
+  pub leave : flashGiven e ≡ performAll (askedGeometry (handed e)) (completedIn s e) (s .flash)
 
 -- The completed erases of the sector of place p, over a list.
 abbrev pub erasesSince : Geometry → ℕ → Found → List CountedEvent → ℕ
@@ -122,8 +132,8 @@ pub record SafeCounted (x : Exchange) (g : Geometry) (old : Flash) (a : ℕ) (s 
   -- the row: that at the start and the completed erases since, place by place
   pub sameLength : length (stateAfter foundAfter s es .row) ≡ rowLength g
   pub placeByPlace : (p : ℕ) → p < rowLength g → getD (stateAfter foundAfter s es .row) p 0 ≡ getD (s .row) p 0 + erasesSince g p s es
-  -- what is completed here are the operations that demand 3's bound counts
-  pub completedAre : Along foundAfter (λ before e after. length (completedIn before e) ≡ (countedSeen (before .flash) e) .done) s es
+  -- of each power-up: what is completed here is as much as demand 3's bound counts, and has left the bytes
+  pub completedAre : Along foundAfter (λ before e after. Completed before e) s es
   -- the total that is handed in next: the row's sum, if it was at the start
   pub total : s .total ≡ sum (s .row) → stateAfter foundAfter s es .total ≡ sum (stateAfter foundAfter s es .row)
 

@@ -1,4 +1,4 @@
--- Counted lists are there: for each list of power-ups that the rules allow there are counted calls, as long as the counts have room; and
+-- Document 02, "Erase counts for the service sheet": counted lists are there. For each list of power-ups that the rules allow there are counted calls, as long as the counts have room; and
 -- from the two starts of `delivered/Witness` a list with a refused power-up, a torn copy, an early end and the finish.
 use mathlib.Core.Path.{_≡_}
 use mathlib.Core.List.{List, map}
@@ -15,12 +15,12 @@ use Rattle.exchange.specs.Reached.{roughList}
 use Rattle.image.specs.Verdict.{checkOf}
 use Rattle.delivered.specs.Witness.{armed, onTest}
 use Rattle.counts.specs.Row.{rowLength, sum}
-use Rattle.delivered_counts.specs.Demand.{CountedEvent, keptPower, cutOff, geometryOf, Found, foundAfter, AllowedCounted}
+use Rattle.delivered_counts.specs.Demand.{CountedEvent, keptPower, cutOff, askedGeometry, Found, foundAfter, AllowedCounted}
 
 -- A counted power-up as the rules have it: the same geometry, budget, loss of power and tear.
 abbrev pub ruled : CountedEvent → Event
-ruled (keptPower h whole) = untorn (geometryOf h) (h .budget)
-ruled (cutOff h whole k part t) = lost (geometryOf h) (h .budget) k t
+ruled (keptPower h whole) = untorn (askedGeometry h) (h .budget)
+ruled (cutOff h whole k part t) = lost (askedGeometry h) (h .budget) k t
 
 -- Counted calls that are allowed from there: they are the power-ups of the list es, one for one, and leave the flash that the rules have.
 pub record CountedCalled (x : Exchange) (g : Geometry) (s : Found) (es : List Event) : Type 0 where

@@ -124,6 +124,11 @@ commandNumber CommandStatus = 10
 commandNumber CommandFlags = 11
 commandNumber WrongTime = 14
 
+-- The number of operations that a command did; a refusal counts 0.
+abbrev pub countOf : Answer ℕ → ℕ
+countOf (gives n) = n
+countOf (refused n p) = 0
+
 -- ---- mending: 1, 10, 14, 17
 
 -- Mending that is refused; its place is 0. 17 is document 02's: no mark fits.

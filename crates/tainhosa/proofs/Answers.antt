@@ -22,7 +22,7 @@ use Rattle.exchange.specs.PowerUp.{powerUp}
 use Rattle.exchange.specs.Commands.{Command}
 use Rattle.image.specs.Verdict.{checkOf, Judges}
 use Rattle.image.proofs.Verdicts.{good-read, bad-as-told}
-use Rattle.numbers.specs.GivenBack.{reasonOf, refusalOf, reasonRefusal, headerSays, imageSays, ownOf, sheetSays}
+use Rattle.numbers.specs.GivenBack.{reasonOf, refusalOf, reasonRefusal, headerSays, imageSays, ownOf, sheetSays, countOf}
 use Rattle.release_values.specs.declared.Stated.{Stated}
 use Rattle.release_sheet.specs.declared.SheetAnswer.{SheetAnswer}
 use Rattle.release_sheet.specs.Reading.{readSheet, Reads as Sheet}
@@ -44,7 +44,7 @@ use Rattle.mend.specs.Delivered.{mendOf, MendDelivers}
 use Rattle.c_mend.specs.Rows.{mendRow}
 use Rattle.c_power_up.specs.declared.Ended.{Ended}
 use Rattle.c_headers.specs.Rows.{headerNumbers, bytesOf, tagRow}
-use Rattle.c_power_up.specs.Outcomes.{endedOf, countOf, powerRow}
+use Rattle.c_power_up.specs.Outcomes.{endedOf, powerRow}
 use Rattle.numbers.proofs.Refusals.{beside-refusal}
 use Rattle.tainhosa.specs.Headers.{afterHeader, given, laidOut, readAnswer, firmwareAnswer, afterWrite, wrote, wroteFrom}
 use Rattle.tainhosa.specs.Releases.{sheetRead}

@@ -9,10 +9,10 @@ use Rattle.flash.specs.Buffers.{Flash}
 use Rattle.exchange.specs.PowerUp.{PowerUp, powerUp}
 use Rattle.exchange.specs.Commands.{Command, armCommand, confirmCommand}
 use Rattle.image.specs.Verdict.{checkOf}
-use Rattle.numbers.specs.GivenBack.{refusalOf, reasonRefusal}
+use Rattle.numbers.specs.GivenBack.{refusalOf, reasonRefusal, countOf}
 use Rattle.mending.specs.Mending.{Mend, mending}
 use Rattle.c_mend.specs.Rows.{mendRow}
-use Rattle.c_power_up.specs.Outcomes.{endedOf, countOf, powerRow}
+use Rattle.c_power_up.specs.Outcomes.{endedOf, powerRow}
 use Rattle.counts.specs.Calls.{Counted, countedPowerUp, countedArm}
 use Rattle.c_counts.specs.Rows.{countedPowerRow, countedArmRow}
 
@@ -92,7 +92,7 @@ abbrev pub countedObeyed : Counted Command → CountedLoaded
 countedObeyed c = afterCounted (refusalOf (c .own .answer) .number) (countedArmRow (c .own .answer) (c .total)) (c .row) (c .own .flash)
 
 -- "Erase counts": asked for n sectors of s bytes, on the flash f, with a budget, the counts and their total. The numbers of a power-up are 7;
--- of another length they are 1, before anything else, and all stays as it was.
+-- numbers of another length are refused with 1, before anything else, and all stays as it was.
 abbrev pub countedPowerUpAnswer : ℕ → ℕ → Flash → ℕ → List ℕ → ℕ → List ℕ → CountedLoaded
 countedPowerUpAnswer n s f budget counts total numbers =
     cond (eqb (length numbers) 7) (countedPoweredUp (countedPowerUp checkOf (geometry n s) f budget counts total)) (afterCounted 1 numbers counts f)

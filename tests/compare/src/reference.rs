@@ -737,18 +737,21 @@ pub fn sum(row: &[u32]) -> u64 {
     row.iter().fold(0, |all, count| all + *count as u64)
 }
 
-/// The sector that an operation erases, if it is an erase: its place in the row.
-fn erased_place(g: Geometry, op: Operation) -> Option<usize> {
-    let (area, i) = match op {
-        Operation::Erase(area, i) => (area, i),
-        Operation::EraseTrailer(area) => (area, g.n - 1),
-        Operation::Copy(..) | Operation::Flag(..) | Operation::Status(..) => return None,
-    };
-    Some(match area {
-        Area::Boot => i,
-        Area::Update => g.n + i,
-        Area::Swap => 2 * g.n,
-    })
+/// The sectors that the row counts, one behind the other: all of BOOT, all of UPDATE, SWAP.
+fn counted_sectors(g: Geometry) -> impl Iterator<Item = (Area, usize)> {
+    let boot = (0..g.n).map(|i| (Area::Boot, i));
+    let update = (0..g.n).map(|i| (Area::Update, i));
+    boot.chain(update).chain([(Area::Swap, 0)])
+}
+
+/// The sector that an operation erases, if it is an erase. SWAP is one sector, whatever sector goes through it.
+fn erased_sector(g: Geometry, op: Operation) -> Option<(Area, usize)> {
+    match op {
+        Operation::Erase(Area::Swap, _) => Some((Area::Swap, 0)),
+        Operation::Erase(area, i) => Some((area, i)),
+        Operation::EraseTrailer(area) => Some((area, g.n - 1)),
+        Operation::Copy(..) | Operation::Flag(..) | Operation::Status(..) => None,
+    }
 }
 
 /// Refusals 1, 19 and 20, which come before all others.
@@ -769,10 +772,8 @@ fn check_counts(g: Geometry, f: &Flash, counts: &Counts) -> Result<(), Refusal> 
 impl Counts {
     /// Counts the erases among these operations, which were completed; the total goes out as the sum.
     pub fn count(&mut self, g: Geometry, done: &[Operation]) {
-        for op in done {
-            if let Some(place) = erased_place(g, *op) {
-                self.row[place] += 1;
-            }
+        for (count, sector) in self.row.iter_mut().zip(counted_sectors(g)) {
+            *count += done.iter().filter(|op| erased_sector(g, **op) == Some(sector)).count() as u32;
         }
         self.total = sum(&self.row);
     }

@@ -63,12 +63,13 @@ returns-2 c =
 
 returns-3 : tie.Need-returns-3
 returns-3 c =
-    let r = c .before .before .before in
+    let r = c .before .before .before .before in
     let g = r .before .before .before in
     let a = g .before .before .before .before .before .before .before .before .before .before .args in
     let f = flash (a .boot .now) (a .update .now) (a .swap .now) in
-    counted-refused (a .sectors) (a .size) f (a .row .now) (a .total) _ (rw (g .g .given .1) at (g .before .before .check-flash .ensures)) _ (r .check-row .ensures) (rowNumber (c .before .r .given .0 .0)) 0
-    (ap rowSays (c .before .r .given .1))
+    rw (c .refused .ensures)
+    (counted-refused (a .sectors) (a .size) f (a .row .now) (a .total) _ (rw (g .g .given .1) at (g .before .before .check-flash .ensures)) _ (r .check-row .ensures) (rowNumber (c .before .before .r .given .0 .0)) 0
+    (ap rowSays (c .before .before .r .given .1)))
 
 returns-4 : tie.Need-returns-4
 returns-4 c =
@@ -92,6 +93,7 @@ arm-counted-spec =
     (λ c. search needs)
     (λ c κs. search needs)
     (λ c. search needs)
+    (λ c κs. search needs)
     (λ c. search needs)
     (λ c κs. search needs)
     (λ c. search needs)

@@ -11,7 +11,7 @@ use Rattle.exchange_front.proofs.Follows.{current-within}
 use Rattle.exchange_steps.proofs.Runs.{runLeft, shaped-kept, current-start, current-same, run-start, run-on, left-on, current-on, run-over, run-spent}
 use Rattle.counts.specs.Row.{raised}
 use Rattle.counts.specs.Claims.{Within32}
-use Rattle.counts_steps.proofs.Counting.{rowLeft, row-start, row-on, row-over, row-spent, room-next}
+use Rattle.counts_steps.proofs.Counting.{rowToCome, row-start, row-on, row-over, row-spent, room-next}
 use Rattle.counts_steps.proofs.repeat_counted.Statement.{statement}
 use Rattle.counts_steps.proofs.repeat_counted.Tie as tie
 
@@ -20,7 +20,7 @@ Inv-loop g job boot₀ update₀ swap₀ budget row₀ at₀ boot update swap ro
     (at .left ≤ budget) × (Shaped g (flash boot update swap)) × (Current g update at)
     × (runLeft job g budget at (flash boot update swap) ≡ run job g budget 0 (flash boot₀ update₀ swap₀))
     × (length boot ≡ length boot₀) × (length update ≡ length update₀) × (length swap ≡ length swap₀) × (length row ≡ length row₀)
-    × (rowLeft job g at (flash boot update swap) row ≡ raised g (operations job g budget 0 (flash boot₀ update₀ swap₀)) row₀)
+    × (rowToCome job g at (flash boot update swap) row ≡ raised g (operations job g budget 0 (flash boot₀ update₀ swap₀)) row₀)
 
 abbrev μ-loop : tie.MeasureT-loop
 μ-loop g job boot₀ update₀ swap₀ budget row₀ at₀ boot update swap row at = at .left
