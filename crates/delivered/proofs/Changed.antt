@@ -13,7 +13,7 @@ use Rattle.header_places.specs.Judging.{rowOf, judge, placesIn}
 use Rattle.header_reader.specs.Reading.{tagPlaces, readHeader}
 use Rattle.header_writer.specs.Writing.{headerBytes}
 use Rattle.image.specs.Check.{imageIn}
-use Rattle.image.specs.Changed.{Holds, StatesSame, Change, version}
+use Rattle.image.specs.Changed.{version}
 use Rattle.delivered.specs.Changed.{release7, says9, VersionChanged}
 
 pub version-changed : VersionChanged

@@ -7,10 +7,10 @@ use Rattle.flash.specs.Sizes.{geometry}
 use Rattle.flash.specs.Buffers.{Flash}
 use Rattle.exchange.specs.PowerUp.{PowerUp, nextAfter}
 use Rattle.exchange.specs.LostPower.{tearNext}
-use Rattle.exchange.specs.Demand.{Exchange, Finished, ReadsFirmware, Left, leftUntorn, leftLost, left, EndsAsAllowed}
+use Rattle.exchange.specs.Demand.{Exchange, Finished, ReadsFirmware, leftUntorn, leftLost, left, EndsAsAllowed}
 use Rattle.exchange.specs.Cases.{exchangeCases, three}
 use Rattle.exchange.proofs.Along.{same-allowed}
-use Rattle.exchange.proofs.Seen.{safe-seen}
+use Rattle.exchange.proofs.Seen.{at, safe-seen}
 use Rattle.exchange.proofs.Whole.{demand-3-ongoing, starts-ongoing}
 use Rattle.exchange.proofs.Cases.{marked-exchange}
 use Rattle.numbers.proofs.Every.{every-map, every-append}
@@ -18,7 +18,7 @@ use Rattle.header_round_trips.specs.Cases.{headerCases}
 use Rattle.header_round_trips.proofs.Marked.{header-cases}
 use Rattle.image.specs.Verdict.{checkOf}
 use Rattle.image.proofs.Verdicts.{check-reads-firmware}
-use Rattle.delivered.specs.Demand.{Gave, CallEvent, keptPower, cutOff, Happens, seen, Demand3, Demand3Ongoing}
+use Rattle.delivered.specs.Demand.{CallEvent, keptPower, cutOff, Happens, seen, Demand3, Demand3Ongoing}
 use Rattle.delivered.specs.Witness.{ruled}
 use Rattle.delivered.specs.MarkedCases.{ofExchange, ofHeader, MarkedCaseHolds, MarkedCases}
 
@@ -27,17 +27,17 @@ pub reads-firmware : (g : Geometry) → ReadsFirmware checkOf g
 reads-firmware g l l′ e e′ same = check-reads-firmware g l l′ same
 
 -- what the calls gave is what the rules have
-pub as-ruled : (x : Exchange) (g : Geometry) (f : Flash) (e : CallEvent) → (¬ Finished x g f) × Happens g f e
-    → (seen f e ≡ left checkOf f (ruled e)) × ((¬ Finished x g f) × EndsAsAllowed checkOf g f (ruled e))
+pub happened : (g : Geometry) (f : Flash) (e : CallEvent) → Happens g f e → (seen f e ≡ left checkOf f (ruled e)) × EndsAsAllowed checkOf g f (ruled e)
 unfolding left
-as-ruled x g f (keptPower n s budget whole) h = (ap (leftUntorn (geometry n s) budget) (h .1), (h .0, tt))
-as-ruled x g f (cutOff n s budget whole k part t) h = (
-  ap (λ (a : PowerUp). leftLost k (tearNext (geometry n s) t (nextAfter checkOf (geometry n s) f k) (a .flash))) (h .1 .1),
-  (h .0, (subst (λ (a : PowerUp). k ≤ a .count) (h .1 .0) (h .1 .2), h .1 .3)),
+happened g f (keptPower n s budget whole) h = (ap (leftUntorn (geometry n s) budget) h, tt)
+happened g f (cutOff n s budget whole k part t) h = (
+  ap (λ (a : PowerUp). leftLost k (tearNext (geometry n s) t (nextAfter checkOf (geometry n s) f k) (a .flash))) (h .1),
+  (subst (λ (a : PowerUp). k ≤ a .count) (h .0) (h .2), h .3),
 )
 
-abbrev pub at : Left → Flash
-at l = l .flash
+pub as-ruled : (x : Exchange) (g : Geometry) (f : Flash) (e : CallEvent) → (¬ Finished x g f) × Happens g f e
+    → (seen f e ≡ left checkOf f (ruled e)) × ((¬ Finished x g f) × EndsAsAllowed checkOf g f (ruled e))
+as-ruled x g f e h = let r = happened g f e (h .1) in (r .0, (h .0, r .1))
 
 pub demand-3-ongoing-delivered : Demand3Ongoing
 demand-3-ongoing-delivered x g old f a ongoing es allowed =

@@ -1,13 +1,12 @@
 -- The list past the finish: an update of 21 operations, and a fallback of 19 more.
-use mathlib.Core.Path.{_≡_, refl, ap, ap₂, _∙_}
+use mathlib.Core.Path.{_≡_, ap, ap₂, _∙_}
 use mathlib.Core.List.{List, [], _∷_}
 use mathlib.Core.Option.{none}
 use Prim.Native.Nat.{ℕ, _+_}
 use native.Mathlib.Omega.{arith}
 use lib.ListN.{getD}
-use Rattle.numbers.specs.Answer.{gives}
 use Rattle.flash.specs.Sizes.{firmware}
-use Rattle.flash.specs.Buffers.{Flash, Shaped}
+use Rattle.flash.specs.Buffers.{Flash}
 use Rattle.flash_status.specs.declared.BootStatus.the-variants.{Testing, Success}
 use Rattle.flash_status.specs.declared.UpdateStatus.the-variants.{New, Updating}
 use Rattle.flash.proofs.Checked.{shaped-of}
@@ -72,11 +71,11 @@ module _ (f : Flash) (r : UpdateReady checkOf f) where
   after-fallback : LeavesAs checkOf f₁ (100 ∷ []) (leaves (19 ∷ []) runsFallenBack none Success New)
   after-fallback = marked-exchange checkOf (reads-firmware three) .1 .1 .1 .1 .1 .1 .1 .1 .1 .1 .1 .0 f₁ ready
 
-  all-done : completed (left checkOf) f onceMore ≡ 40
+  pub all-done : completed (left checkOf) f onceMore ≡ 40
   unfolding left
   all-done = ap₂ (λ (x y : ℕ). x + (y + 0)) (count-of f 21 _ after-update) (count-of f₁ 100 _ after-fallback)
 
-  none-early : earlyEnds (left checkOf) f onceMore ≡ 0
+  pub none-early : earlyEnds (left checkOf) f onceMore ≡ 0
   unfolding left
   none-early = ap₂ (λ (x y : ℕ). x + (y + 0)) (cut-of f 21 _ after-update) (cut-of f₁ 100 _ after-fallback)
 

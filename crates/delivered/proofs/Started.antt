@@ -23,7 +23,8 @@ use Rattle.exchange.specs.Cases.{three}
 use Rattle.exchange.proofs.Whole.{starts-ongoing}
 use Rattle.exchange.proofs.Reached.{finish-reached}
 use Rattle.image.specs.Verdict.{checkOf}
-use Rattle.delivered.specs.Witness.{imagePartition, armed, onTest, Called, Witness, Witnesses}
+use Rattle.delivered.specs.Demand.{AllowedCalls}
+use Rattle.delivered.specs.Witness.{imagePartition, armed, onTest, Called, Witnesses}
 use Rattle.delivered.specs.PastFinish.{PastFinishMet}
 use Rattle.delivered.proofs.Delivered.{reads-firmware}
 use Rattle.delivered.proofs.Called.{every-list-called}
@@ -60,7 +61,7 @@ on-test-starts = record { decided = refl; flagsF = refl }
 
 -- the list of the witness, as calls
 called-from : (x : Exchange) (f : Flash) → Starts checkOf x three f → (t : Torn) → length (t .bytes) ≡ 256 → (budget : ℕ) → most x 2 + 2 ≤ budget
-    → Called x three f (roughList three t budget)
+    → Called (AllowedCalls x three f) f (roughList three t budget)
 unfolding firmware
 called-from x f s t len budget le =
     every-list-called x three f f 0 (starts-ongoing checkOf x three f s) (roughList three t budget)

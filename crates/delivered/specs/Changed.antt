@@ -1,7 +1,7 @@
 -- Document 02, "The digest must cover the header": a release that is changed, with real digests. The premises of `image/EachChangeIsRefused`
 -- can be met, and what it leaves open is then 9. Proved in proofs/.
 use mathlib.Core.Path.{_≡_}
-use mathlib.Core.List.{List, [], _∷_, _++_}
+use mathlib.Core.List.{List, _∷_, _++_}
 use Prim.Native.Nat.{ℕ}
 use lib.ListN.{set, replicate}
 use Rattle.numbers.specs.Answer.{refused}

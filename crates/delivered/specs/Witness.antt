@@ -51,11 +51,11 @@ abbrev pub ruled : CallEvent → Event
 ruled (keptPower n s budget whole) = untorn (geometry n s) budget
 ruled (cutOff n s budget whole k part t) = lost (geometry n s) budget k t
 
--- A list of calls that 01 allows from f: they are the power-ups of the list es, one for one, and leave what the rules have of it.
-pub record Called (x : Exchange) (g : Geometry) (f : Flash) (es : List Event) : Type 0 where
+-- A list of calls that is allowed: they are the power-ups of the list es, one for one, and leave what the rules have of it, from f on.
+pub record Called (allowed : List CallEvent → Type 0) (f : Flash) (es : List Event) : Type 0 where
   pub calls : List CallEvent
   pub are : map ruled calls ≡ es
-  pub allowed : AllowedCalls x g f calls
+  pub allows : allowed calls
   pub leaves : flashAfter seen f calls ≡ flashAfter (left checkOf) f es
 
 -- The calls are there for every list: wherever an exchange is under way, for each list that the rules allow there are answers and bytes that
@@ -63,13 +63,13 @@ pub record Called (x : Exchange) (g : Geometry) (f : Flash) (es : List Event) : 
 abbrev pub EveryListCalled : Type 0
 EveryListCalled =
     (x : Exchange) (g : Geometry) (old f : Flash) (a : ℕ) → Ongoing checkOf x g old f a → (es : List Event) → Allowed checkOf x g f es
-    → Called x g f es
+    → Called (AllowedCalls x g f) f es
 
 -- A start, and from there a list with a refused power-up, a torn copy and the finish: by the rules, and as calls.
 pub record Witness (x : Exchange) (f : Flash) : Type 0 where
   pub starts : Starts checkOf x three f
   pub finishes : (t : Torn) → length (t .bytes) ≡ 256 → (budget : ℕ) → most x 2 + 2 ≤ budget → Reached checkOf x three f t budget
-  pub called : (t : Torn) → length (t .bytes) ≡ 256 → (budget : ℕ) → most x 2 + 2 ≤ budget → Called x three f (roughList three t budget)
+  pub called : (t : Torn) → length (t .bytes) ≡ 256 → (budget : ℕ) → most x 2 + 2 ≤ budget → Called (AllowedCalls x three f) f (roughList three t budget)
 
 pub record Witnesses : Type 0 where
   pub ofUpdate : Witness update armed

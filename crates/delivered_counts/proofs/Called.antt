@@ -3,10 +3,10 @@ use mathlib.Core.Path.{_≡_, refl, sym, ap, ap₂, _∙_, subst}
 use mathlib.Core.Logic.{_≢_}
 use mathlib.Core.Bool.{true}
 use mathlib.Core.List.{List, [], _∷_}
-use Prim.Native.Nat.{ℕ, suc, _+_, _*_, _≤_, _<_}
+use Prim.Native.Nat.{ℕ, suc, _≤_, _<_}
 use native.Mathlib.Omega.{arith}
 use native.Mathlib.Nat.{mul-suc}
-use lib.ListN.{length, getD, getD-replicate}
+use lib.ListN.{length, getD-replicate}
 use Rattle.numbers.specs.Answer.{numbered, numberOf}
 use Rattle.numbers.specs.declared.PowerUpRefusal.the-variants.{OutsideRules, StatusNotAllowed, FlagsMalformed, BadBoot, NoFallback}
 use Rattle.flash.specs.declared.Geometry.{Geometry}
@@ -14,9 +14,11 @@ use Rattle.flash.specs.Sizes.{firmware}
 use Rattle.flash.specs.Buffers.{Flash, fits}
 use Rattle.exchange.specs.PowerUp as rules
 use Rattle.exchange.specs.PowerUp.{PowerUp, refusal, cut, runs, runsOnTest, runsFallenBack, powerUp}
-use Rattle.exchange.specs.Demand.{Exchange, update, fallback, Finished, Starts, Ongoing, Event, untorn, lost, left, EndsAsAllowed, Allowed, flashAfter}
+use Rattle.exchange.specs.Along.{Along}
+use Rattle.exchange.specs.Demand.{Exchange, update, fallback, Finished, Starts, Event, untorn, lost, left, flashLeft, EndsAsAllowed, flashAfter}
 use Rattle.exchange.specs.Cases.{three}
 use Rattle.exchange.specs.Reached.{roughList}
+use Rattle.exchange.proofs.Seen.{at}
 use Rattle.exchange.proofs.Whole.{starts-ongoing}
 use Rattle.exchange.proofs.Reached.{finish-reached}
 use Rattle.image.specs.Verdict.{checkOf}
@@ -24,17 +26,17 @@ use Rattle.power_up.specs.declared.Outcome.{Outcome}
 use Rattle.power_up.specs.declared.Outcome.the-variants.{Refused, Cut, Run, RunOnTest, RunFallenBack}
 use Rattle.power_up.specs.Delivered.{outcomeOf}
 use Rattle.delivered.specs.Witness.{armed, onTest}
-use Rattle.delivered.proofs.Delivered.{reads-firmware, at}
-use Rattle.delivered.proofs.Called.{gave, gives-it}
+use Rattle.delivered.proofs.Delivered.{reads-firmware}
+use Rattle.delivered.proofs.Called.{gave, ToldOn, gives-it, Goes, goes-on, told-going}
 use Rattle.delivered.proofs.Started.{witnesses}
 use Rattle.counts.specs.Row.{rowLength, sum}
 use Rattle.counts.specs.Calls.{countedPowerUp}
-use Rattle.counts.specs.Claims.{erasesAt, RoomForM}
+use Rattle.counts.specs.Claims.{RoomForM}
 use Rattle.counts_power_up.specs.declared.CountedOutcome.the-variants.{PowerUp as Own}
-use Rattle.delivered_counts.specs.Demand.{CountedGave, Handed, CountedEvent, keptPower, cutOff, Gives, Found, foundAfter, AllowedHere, completedIn}
-use Rattle.delivered_counts.specs.Witness.{ruled, CountedCalled, EveryListCounted, fresh, CountedWitness, CountedWitnesses}
-use Rattle.delivered_counts.proofs.OneCall.{own-is, few-erases}
-use Rattle.delivered_counts.proofs.Lists.{Ruled, as-ruled, stage-after}
+use Rattle.delivered_counts.specs.Demand.{CountedGave, Handed, CountedEvent, keptPower, cutOff, Gives, Found, foundAfter, HandedOn}
+use Rattle.delivered_counts.specs.Witness.{ruled, CountedCalled, RoomFor, EveryListCounted, fresh, CountedWitness, CountedWitnesses}
+use Rattle.delivered_counts.proofs.OneCall.{own-is}
+use Rattle.delivered_counts.proofs.Lists.{Ruled, as-ruled, few-completed}
 
 -- ---- power-up's own numbers end at 13
 
@@ -80,12 +82,12 @@ givesBack s g′ budget =
       row = c .row;
     }
 
-module _ (x : Exchange) (g : Geometry) (old : Flash) (a : ℕ) (s : Found) (o : Ongoing checkOf x g old (s .flash) a) (not : ¬ Finished x g (s .flash)) (q : InOrder g s) where
+module _ (g : Geometry) (s : Found) (fit : fits g (s .flash) ≡ true) (told : ToldOn (s .flash)) (q : InOrder g s) where
   gives : (g′ : Geometry) (budget : ℕ) → Gives (s .flash) (handing s g′ budget) (givesBack s g′ budget)
   gives g′ budget =
       let c = countedPowerUp checkOf g′ (s .flash) budget (s .row) (s .total) in
       let r = givesBack s g′ budget in
-      let e = gives-it x g old (s .flash) a o not g′ budget ∙ sym (own-is g g′ (s .flash) budget (s .row) (s .total) (o .fit) (q .long) (sym (q .summed)) (q .room)) in
+      let e = gives-it (s .flash) told g′ budget ∙ sym (own-is g g′ (s .flash) budget (s .row) (s .total) fit (q .long) (sym (q .summed)) (q .room)) in
       record {
         delivers = ap (λ (p : PowerUp). record { own = p; row = c .row; total = c .total }) e;
         not19 = not-own (gave (powerUp checkOf g′ (s .flash) budget) .answer .outcome) 19 (omega arith);
@@ -97,16 +99,11 @@ abbrev call : Found → Event → CountedEvent
 call s (untorn g′ budget) = keptPower (handing s g′ budget) (givesBack s g′ budget)
 call s (lost g′ budget k t) = cutOff (handing s g′ budget) (givesBack s g′ budget) k (givesBack s g′ k) t
 
-allowed-call : (x : Exchange) (g : Geometry) (old : Flash) (a : ℕ) (s : Found) → Ongoing checkOf x g old (s .flash) a → ¬ Finished x g (s .flash) → InOrder g s
-    → (e : Event) → EndsAsAllowed checkOf g (s .flash) e → AllowedHere x g s (call s e)
-allowed-call x g old a s o not q (untorn g′ budget) h = record { notFinished = not; sameRow = refl; sameTotal = refl; happens = gives x g old a s o not q g′ budget }
-allowed-call x g old a s o not q (lost g′ budget k t) h =
-    record {
-      notFinished = not;
-      sameRow = refl;
-      sameTotal = refl;
-      happens = (gives x g old a s o not q g′ budget, gives x g old a s o not q g′ k, h .0, h .1);
-    }
+handed-on : (g : Geometry) (s : Found) → fits g (s .flash) ≡ true → ToldOn (s .flash) → InOrder g s → (e : Event) → EndsAsAllowed checkOf g (s .flash) e
+    → HandedOn g s (call s e)
+handed-on g s fit told q (untorn g′ budget) h = record { sameRow = refl; sameTotal = refl; happens = gives g s fit told q g′ budget }
+handed-on g s fit told q (lost g′ budget k t) h =
+    record { sameRow = refl; sameTotal = refl; happens = (gives g s fit told q g′ budget, gives g s fit told q g′ k, h .0, h .1) }
 
 ruled-call : (s : Found) (e : Event) → ruled (call s e) ≡ e
 ruled-call s (untorn g′ budget) = refl
@@ -114,75 +111,44 @@ ruled-call s (lost g′ budget k t) = refl
 
 -- ---- the room that is left
 
--- a power-up takes room for m erases
-few-completed : (g : Geometry) (s : Found) (e : Event) → fits g (s .flash) ≡ true → (p : ℕ) → erasesAt g p (completedIn s (call s e)) ≤ firmware g
-few-completed g s (untorn g′ budget) fit p = few-erases g g′ (s .flash) budget p fit
-few-completed g s (lost g′ budget k t) fit p = few-erases g g′ (s .flash) k p fit
-
--- and leaves it for the n that follow
-abbrev RoomFor : Geometry → ℕ → List ℕ → Type 0
-RoomFor g n row = (p : ℕ) → p < rowLength g → getD row p 0 + firmware g * n ≤ 4294967295
-
-one-more : (m n : ℕ) → m * suc n ≡ m * n + m
-one-more m n = mul-suc m n
-
+-- a power-up takes room for m erases, and leaves it for the n that follow
 module _ (g : Geometry) (s : Found) (n : ℕ) (long : length (s .row) ≡ rowLength g) (room : RoomFor g (suc n) (s .row)) where
   room-now : RoomForM g (s .row)
-  room-now k b = omega (arith, one-more (firmware g) n, room k (rw long at b))
+  room-now k b = omega (arith, mul-suc (firmware g) n, room k (rw long at b))
 
   room-then : (e : Event) → fits g (s .flash) ≡ true → Ruled g s (call s e) → RoomFor g n (foundAfter s (call s e) .row)
-  room-then e fit r p b = omega (arith, one-more (firmware g) n, room p b, r .places p (rw long b), few-completed g s e fit p)
+  room-then e fit r p b = omega (arith, mul-suc (firmware g) n, room p b, r .places p (rw long b), few-completed g s (call s e) fit p)
 
--- ---- a list of them
+-- ---- a list of them, by what holds between two power-ups
 
-module _ (x : Exchange) (g : Geometry) (old : Flash) where
-  none-called : (s : Found) → CountedCalled x g s []
-  none-called s = record { calls = []; are = refl; allowed = tt; leaves = refl }
+module _ (g : Geometry) (Inv Allows : Flash → Type 0) (fit : (y : Flash) → Inv y → Allows y → fits g y ≡ true) (told : (y : Flash) → Inv y → Allows y → ToldOn y)
+    (on : (y : Flash) (e : Event) → Inv y → Allows y → EndsAsAllowed checkOf g y e → Inv ((left checkOf y e) .flash)) where
+  abbrev Lists : Found → List CountedEvent → Type 0
+  Lists s cs = Along foundAfter (λ before c after. Allows (before .flash) × HandedOn g before c) s cs
 
-  -- the rest of a list, by the stage that its first power-up left
-  rest-of : (s : Found) (a : ℕ) (es : List Event) → ((b : ℕ) → Ongoing checkOf x g old (s .flash) b → CountedCalled x g s es)
-      → (¬ Finished x g (s .flash) → (b : ℕ) × (a ≤ b) × Ongoing checkOf x g old (s .flash) b) → Allowed checkOf x g (s .flash) es → CountedCalled x g s es
-  rest-of s a [] again on h = none-called s
-  rest-of s a (e ∷ es) again on h = let q = on (h .0 .0) in again (q .0) (q .2)
-
-  called : (es : List Event) (a : ℕ) (s : Found) → Ongoing checkOf x g old (s .flash) a → length (s .row) ≡ rowLength g → s .total ≡ sum (s .row)
-      → RoomFor g (length es) (s .row) → Allowed checkOf x g (s .flash) es → CountedCalled x g s es
-  called [] a s o long summed room h = none-called s
-  called (e ∷ es) a s o long summed room h =
-      joined
-      (rest-of after a es
-      (λ b o′. called es b after o′ (r .sameLength ∙ long) (r .total summed) (room-then g s (length es) long room e (o .fit) r) rest)
-      (stage-after x g old s a (call s e) o (h .0 .0) r) rest)
-    where
-      q : InOrder g s
-      q = record { long = long; summed = summed; room = room-now g s (length es) long room }
-
-      here : AllowedHere x g s (call s e)
-      here = allowed-call x g old a s o (h .0 .0) q e (h .0 .1)
-
-      r : Ruled g s (call s e)
-      r = as-ruled x g s (call s e) (o .fit) long here
-
-      after : Found
-      after = foundAfter s (call s e)
-
-      -- the flash that it leaves is the one that the rules have
-      same : after .flash ≡ (left checkOf (s .flash) e) .flash
-      same = ap at (r .seen ∙ ap (left checkOf (s .flash)) (ruled-call s e))
-
-      rest : Allowed checkOf x g (after .flash) es
-      rest = subst (λ (y : Flash). Allowed checkOf x g y es) (sym same) (h .1)
-
-      joined : CountedCalled x g after es → CountedCalled x g s (e ∷ es)
-      joined c = record {
+  pub counted-all : (es : List Event) (s : Found) → Inv (s .flash) → length (s .row) ≡ rowLength g → s .total ≡ sum (s .row) → RoomFor g (length es) (s .row)
+      → Along (flashLeft (left checkOf)) (λ before e after. Allows before × EndsAsAllowed checkOf g before e) (s .flash) es → CountedCalled (Lists s) s es
+  counted-all [] s i long summed room h = record { calls = []; are = refl; allows = tt; leaves = refl }
+  counted-all (e ∷ es) s i long summed room h =
+      let right = fit (s .flash) i (h .0 .0) in
+      let q : InOrder g s = record { long = long; summed = summed; room = room-now g s (length es) long room } in
+      let here : HandedOn g s (call s e) = handed-on g s right (told (s .flash) i (h .0 .0)) q e (h .0 .1) in
+      let r : Ruled g s (call s e) = as-ruled g s (call s e) right long here in
+      let same : foundAfter s (call s e) .flash ≡ (left checkOf (s .flash) e) .flash = ap at (r .seen ∙ ap (left checkOf (s .flash)) (ruled-call s e)) in
+      let c : CountedCalled (Lists (foundAfter s (call s e))) (foundAfter s (call s e)) es = counted-all es (foundAfter s (call s e))
+      (subst Inv (sym same) (on (s .flash) e i (h .0 .0) (h .0 .1))) (r .sameLength ∙ long) (r .total summed) (room-then g s (length es) long room e right r)
+      (subst (λ (y : Flash). Along (flashLeft (left checkOf)) (λ before e after. Allows before × EndsAsAllowed checkOf g before e) y es) (sym same) (h .1)) in
+      record {
         calls = call s e ∷ c .calls;
         are = ap₂ (λ (d : Event) (ds : List Event). d ∷ ds) (ruled-call s e) (c .are);
-        allowed = (here, c .allowed);
+        allows = ((h .0 .0, here), c .allows);
         leaves = c .leaves ∙ ap (λ (y : Flash). flashAfter (left checkOf) y es) same;
       }
 
 pub every-list-counted : EveryListCounted
-every-list-counted x g old a s o long summed es room h = called x g old es a s o long summed room h
+every-list-counted x g old a s o long summed es room h =
+    counted-all g (Goes x g old) (λ y. ¬ Finished x g y) (λ y i not. i not .1 .fit) (told-going x g old) (goes-on x g old) es s
+    (λ not. (a, o)) long summed room h
 
 -- ---- the two starts
 

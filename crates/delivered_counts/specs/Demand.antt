@@ -93,16 +93,15 @@ pub record Found : Type 0 where
 abbrev pub foundAfter : Found → CountedEvent → Found
 foundAfter s e = record { flash = flashLeft countedSeen (s .flash) e; row = rowLeft e; total = totalLeft e }
 
--- The lists that 01 allows from there, with row and total as 02 has it: each call is handed the row and the total, and finds the flash, that
--- the last one left; none comes after the finish.
-pub record AllowedHere (x : Exchange) (g : Geometry) (s : Found) (e : CountedEvent) : Type 0 where
-  pub notFinished : ¬ Finished x g (s .flash)
+-- With row and total as 02 has it, a call is handed the row and the total, and finds the flash, that the last one left.
+pub record HandedOn (g : Geometry) (s : Found) (e : CountedEvent) : Type 0 where
   pub sameRow : handed e .row ≡ s .row
   pub sameTotal : handed e .total ≡ s .total
   pub happens : Happens g (s .flash) e
 
+-- The lists that 01 allows from there: none of the calls comes after the finish.
 abbrev pub AllowedCounted : Exchange → Geometry → Found → List CountedEvent → Type 0
-AllowedCounted x g s es = Along foundAfter (λ before e after. AllowedHere x g before e) s es
+AllowedCounted x g s es = Along foundAfter (λ before e after. (¬ Finished x g (before .flash)) × HandedOn g before e) s es
 
 -- ---- what is claimed
 
@@ -124,10 +123,9 @@ pub record Completed (s : Found) (e : CountedEvent) : Type 0 where
 abbrev pub erasesSince : Geometry → ℕ → Found → List CountedEvent → ℕ
 erasesSince g p s es = summed foundAfter (λ before e. erasesAt g p (completedIn before e)) s es
 
--- All that is claimed of a list, as one claim. The exchange of what `old` holds stands a moves along where the list starts.
-pub record SafeCounted (x : Exchange) (g : Geometry) (old : Flash) (a : ℕ) (s : Found) (es : List CountedEvent) : Type 0 where
-  -- the flash's part: all of demand 3, as without a row; and the flash that the list leaves is the one that it speaks of
-  pub flash : Safe checkOf countedSeen x g old (s .flash) a es
+-- What row and total come to, over any list of calls from there.
+pub record RowKept (g : Geometry) (s : Found) (es : List CountedEvent) : Type 0 where
+  -- the flash that the list leaves is the one that is seen of it
   pub sameFlash : stateAfter foundAfter s es .flash ≡ flashAfter countedSeen (s .flash) es
   -- the row: that at the start and the completed erases since, place by place
   pub sameLength : length (stateAfter foundAfter s es .row) ≡ rowLength g
@@ -136,6 +134,12 @@ pub record SafeCounted (x : Exchange) (g : Geometry) (old : Flash) (a : ℕ) (s 
   pub completedAre : Along foundAfter (λ before e after. Completed before e) s es
   -- the total that is handed in next: the row's sum, if it was at the start
   pub total : s .total ≡ sum (s .row) → stateAfter foundAfter s es .total ≡ sum (stateAfter foundAfter s es .row)
+
+-- All that is claimed of a list, as one claim. The exchange of what `old` holds stands a moves along where the list starts.
+pub record SafeCounted (x : Exchange) (g : Geometry) (old : Flash) (a : ℕ) (s : Found) (es : List CountedEvent) : Type 0 where
+  -- the flash's part: all of demand 3, as without a row
+  pub flash : Safe checkOf countedSeen x g old (s .flash) a es
+  pub counts : RowKept g s es
 
 -- Demand 3 while neither 19 nor 20 is met: from every start, with a row that has the geometry's length, every such list is safe.
 abbrev pub CountedDemand3 : Type 0

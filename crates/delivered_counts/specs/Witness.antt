@@ -22,20 +22,24 @@ abbrev pub ruled : CountedEvent → Event
 ruled (keptPower h whole) = untorn (askedGeometry h) (h .budget)
 ruled (cutOff h whole k part t) = lost (askedGeometry h) (h .budget) k t
 
--- Counted calls that are allowed from there: they are the power-ups of the list es, one for one, and leave the flash that the rules have.
-pub record CountedCalled (x : Exchange) (g : Geometry) (s : Found) (es : List Event) : Type 0 where
+-- Counted calls that are allowed: they are the power-ups of the list es, one for one, and leave the flash that the rules have, from s on.
+pub record CountedCalled (allowed : List CountedEvent → Type 0) (s : Found) (es : List Event) : Type 0 where
   pub calls : List CountedEvent
   pub are : map ruled calls ≡ es
-  pub allowed : AllowedCounted x g s calls
+  pub allows : allowed calls
   pub leaves : stateAfter foundAfter s calls .flash ≡ flashAfter (left checkOf) (s .flash) es
+
+-- Room in each count of a row for m erases in each of k power-ups.
+abbrev pub RoomFor : Geometry → ℕ → List ℕ → Type 0
+RoomFor g k row = (p : ℕ) → p < rowLength g → getD row p 0 + firmware g * k ≤ 4294967295
 
 -- Wherever an exchange is under way, with a row of the right length, its sum as the total, and room in each count for m erases in each
 -- power-up: neither 19 nor 20 is met, and the calls are there for every list that the rules allow.
 abbrev pub EveryListCounted : Type 0
 EveryListCounted =
     (x : Exchange) (g : Geometry) (old : Flash) (a : ℕ) (s : Found) → Ongoing checkOf x g old (s .flash) a → length (s .row) ≡ rowLength g
-    → s .total ≡ sum (s .row) → (es : List Event) → ((p : ℕ) → p < rowLength g → getD (s .row) p 0 + firmware g * length es ≤ 4294967295)
-    → Allowed checkOf x g (s .flash) es → CountedCalled x g s es
+    → s .total ≡ sum (s .row) → (es : List Event) → RoomFor g (length es) (s .row) → Allowed checkOf x g (s .flash) es
+    → CountedCalled (AllowedCounted x g s) s es
 
 -- From a start of three sectors, with a row of zeros.
 abbrev pub fresh : Flash → Found
@@ -43,7 +47,8 @@ fresh f = record { flash = f; row = replicate 7 0; total = 0 }
 
 abbrev pub CountedWitness : Exchange → Flash → Type 0
 CountedWitness x f =
-    (t : Torn) → length (t .bytes) ≡ 256 → (budget : ℕ) → most x 2 + 2 ≤ budget → CountedCalled x three (fresh f) (roughList three t budget)
+    (t : Torn) → length (t .bytes) ≡ 256 → (budget : ℕ) → most x 2 + 2 ≤ budget
+    → CountedCalled (AllowedCounted x three (fresh f)) (fresh f) (roughList three t budget)
 
 pub record CountedWitnesses : Type 0 where
   pub ofUpdate : CountedWitness update armed

@@ -6,7 +6,7 @@ use lib.Seq.{getD-set-other}
 use native.Mathlib.Omega.{arith}
 use mathlib.Core.List.{List}
 use Rattle.flash.specs.declared.Geometry.{Geometry}
-use Rattle.flash.specs.Sizes.{geometry, firmware, withinLimits}
+use Rattle.flash.specs.Sizes.{firmware, withinLimits}
 use Rattle.numbers.specs.Answer.{Answer, gives, refused, noReason}
 use Rattle.flash.specs.Sectors.{sectorNumber, part, patch, erased}
 use Rattle.flash.specs.Buffers.{Flash, partitionFits, fits}
@@ -37,8 +37,6 @@ use Rattle.mending.specs.OldImages.{joined, oldPartition, oldFlash, fitsMark}
 use Rattle.mending.specs.Mending.{firstFitting, found, setFlagsTo, differing, Given, given, Mend, mending}
 use Rattle.mending.specs.Mended.{ButFlags}
 use Rattle.exchange.specs.LostPower.{Torn}
-use Rattle.mend.specs.declared.MendAnswer.{MendAnswer}
-use Rattle.mend.specs.Delivered.{mendOf, MendDelivers}
 use Rattle.delivered.specs.Demand.{seen}
 use Rattle.delivered.specs.Witness.{imagePartition, armed}
 use Rattle.delivered.proofs.Started.{witnesses}
@@ -141,7 +139,7 @@ recovered j h t T budget l =
     by e =
         let a : AtFinish update three before (flashAfter seen (stopped 0xF7 0x00) (e .called .calls))
         = demand-3-mended 3 256 (stopped 0x5A 0x00) (At (sectorNumber 0) BootToUpdate) 1 (stopped 0xF7 0x00 .update) (calls-give .mends) (e .called .calls)
-        (e .called .allowed) .atFinish (e .finished) in
+        (e .called .allows) .atFinish (e .finished) in
         record {
           ends = e;
           exchanged = λ i hi. record {

@@ -44,6 +44,7 @@ use Rattle.mending.specs.OldImages.{oldFlash}
 use Rattle.mending.proofs.Found.{may-shaped, but-status}
 use Rattle.mend.specs.declared.MendAnswer.the-variants.{Mended}
 use Rattle.mend.specs.Delivered.{MendDelivers}
+use Rattle.delivered.specs.Demand.{AllowedCalls}
 use Rattle.delivered.specs.Witness.{Called}
 use Rattle.delivered.proofs.Delivered.{reads-firmware}
 use Rattle.delivered.proofs.Called.{every-list-called}
@@ -190,7 +191,7 @@ module _ (n s : ℕ) (f : Flash) (k : Mark) (bytes : ℕ) (u : List ℕ) (d : Me
       → FinishCalled g (leftBy f u) (brokenOff g j t budget)
   comes-to-finish j h t T budget l = by (stands-at (W .may .statuses) (W .may .readBoot))
     where
-      as-calls : Ends checkOf g G old (W .may .statuses) I (leftBy f u) (brokenOff g j t budget) → Called update g (leftBy f u) (brokenOff g j t budget)
+      as-calls : Ends checkOf g G old (W .may .statuses) I (leftBy f u) (brokenOff g j t budget) → Called (AllowedCalls update g (leftBy f u)) (leftBy f u) (brokenOff g j t budget)
           → FinishCalled g (leftBy f u) (brokenOff g j t budget)
       as-calls e c = record { called = c; finished = subst (λ (y : Flash). Finished update g y) (sym (c .leaves)) (e .finished) }
 

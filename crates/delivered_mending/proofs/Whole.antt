@@ -18,12 +18,12 @@ use Rattle.mending.specs.Mending.{given, Mend, mending}
 use Rattle.mending.specs.Mended.{MayMend, ButFlags, markOf, ReadAs, GivesMark}
 use Rattle.mending.proofs.Found.{but-status, may-shaped, flags-not-read}
 use Rattle.mending.proofs.Whole.{mended-under-way, mends-once, spoiled-mends}
-use Rattle.mend.specs.declared.MendAnswer.{MendAnswer}
 use Rattle.mend.specs.declared.MendAnswer.the-variants.{Mended}
 use Rattle.mend.specs.Delivered.{MendDelivers}
 use Rattle.delivered.specs.Demand.{CallEvent, Happens, seen, AllowedCalls}
 use Rattle.delivered.specs.Witness.{ruled}
-use Rattle.delivered.proofs.Delivered.{reads-firmware, as-ruled, at, demand-3-ongoing-delivered}
+use Rattle.exchange.proofs.Seen.{at}
+use Rattle.delivered.proofs.Delivered.{reads-firmware, as-ruled, demand-3-ongoing-delivered}
 use Rattle.delivered_mending.specs.Asked.{leftBy, FlagsHaveNoSay, MendedOnce}
 use Rattle.delivered_mending.specs.Demand.{Demand3Mended}
 use Rattle.delivered_mending.specs.Spoiled.{GaveMark, SpoiledCallMends}

@@ -19,7 +19,7 @@ use Rattle.mend.specs.declared.MendAnswer.the-variants.{Mended}
 use Rattle.mend.specs.Delivered.{MendDelivers}
 use Rattle.power_up.specs.declared.PowerUpAnswer.{PowerUpAnswer}
 use Rattle.power_up.specs.Delivered.{Delivers}
-use Rattle.delivered.specs.Demand.{seen}
+use Rattle.delivered.specs.Demand.{seen, AllowedCalls}
 use Rattle.delivered.specs.Witness.{Called}
 use Rattle.delivered_mending.specs.Asked.{leftBy}
 
@@ -39,7 +39,7 @@ brokenOff g j t budget = untorn (geometry 0 0) budget ∷ lost g budget j t ∷ 
 
 -- The power-ups of the list es as calls that 01 allows from f, at whose end the update is finished.
 pub record FinishCalled (g : Geometry) (f : Flash) (es : List Event) : Type 0 where
-  pub called : Called update g f es
+  pub called : Called (AllowedCalls update g f) f es
   pub finished : Finished update g (flashAfter seen f (called .calls))
 
 -- From every mended state, for all torn bytes, and wherever power fails in the legs that the mark leaves to do; where it leaves none, in the

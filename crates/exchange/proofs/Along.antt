@@ -1,6 +1,7 @@
--- Lists of calls by induction, once: an invariant with a number of operations left, and what each call pays for; and one list read in two ways.
+-- Lists of calls by induction, once: an invariant with a number of operations left, and what each call pays for; one list behind another, and a
+-- list split in two; and one list read in two ways.
 use mathlib.Core.Path.{_≡_, refl, sym, ap, ap₂, _∙_, subst}
-use mathlib.Core.List.{List, [], _∷_, map}
+use mathlib.Core.List.{List, [], _∷_, _++_, map}
 use Prim.Native.Nat.{ℕ, _+_, _*_, _≤_}
 use native.Mathlib.Omega.{arith}
 use native.Mathlib.Nat.{mul-add}
@@ -34,6 +35,51 @@ module _ {S C : Type 0} (next : S → C → S) (P Q : S → C → S → Type 0) 
             paid = rw (mul-add w (extra s c) (summed next extra (next s c) cs)) (omega (arith, p .paid, l .paid));
             claim = (p .claim, l .claim);
           }
+
+-- ---- one list behind another
+
+module _ {S C : Type 0} (next : S → C → S) where
+  pub after-append : (cs ds : List C) (s : S) → stateAfter next s (cs ++ ds) ≡ stateAfter next (stateAfter next s cs) ds
+  after-append [] ds s = refl
+  after-append (c ∷ cs) ds s = after-append cs ds (next s c)
+
+  pub sum-append : (n : S → C → ℕ) (cs ds : List C) (s : S) → summed next n s (cs ++ ds) ≡ summed next n s cs + summed next n (stateAfter next s cs) ds
+  sum-append n [] ds s = omega arith
+  sum-append n (c ∷ cs) ds s = let e = sum-append n cs ds (next s c) in omega arith
+
+  pub along-append : (P : S → C → S → Type 0) (cs ds : List C) (s : S) → Along next P s cs → Along next P (stateAfter next s cs) ds → Along next P s (cs ++ ds)
+  along-append P [] ds s h k = k
+  along-append P (c ∷ cs) ds s h k = (h .0, along-append P cs ds (next s c) (h .1) k)
+
+  -- what holds of every call holds also in part
+  pub along-part : (P Q : S → C → S → Type 0) → ((s : S) (c : C) → P s c (next s c) → Q s c (next s c)) → (cs : List C) (s : S) → Along next P s cs → Along next Q s cs
+  along-part P Q one [] s h = tt
+  along-part P Q one (c ∷ cs) s h = (one s c (h .0), along-part P Q one cs (next s c) (h .1))
+
+  -- two lists, each with something more that holds before its calls, are one
+  pub along-both : (F G : S → Type 0) (P : S → C → S → Type 0) (cs ds : List C) (s : S) → Along next (λ s₁ c s₂. F s₁ × P s₁ c s₂) s cs
+      → Along next (λ s₁ c s₂. G s₁ × P s₁ c s₂) (stateAfter next s cs) ds → Along next P s (cs ++ ds)
+  along-both F G P cs ds s h k =
+      along-append P cs ds s (along-part (λ s₁ c s₂. F s₁ × P s₁ c s₂) P (λ s₁ c q. q .1) cs s h)
+      (along-part (λ s₁ c s₂. G s₁ × P s₁ c s₂) P (λ s₁ c q. q .1) ds (stateAfter next s cs) k)
+
+  -- a list is split where something that can be told is first true
+  pub data Split (F : S → Type 0) (P : S → C → S → Type 0) (s : S) (cs : List C) : Type 0 where
+    never : Along next (λ s₁ c s₂. (¬ F s₁) × P s₁ c s₂) s cs → Split F P s cs
+    splits : (ds es : List C) → ds ++ es ≡ cs → Along next (λ s₁ c s₂. (¬ F s₁) × P s₁ c s₂) s ds → F (stateAfter next s ds) → Along next P (stateAfter next s ds) es
+        → Split F P s cs
+
+  pub split : (F : S → Type 0) (P : S → C → S → Type 0) → ((s : S) → Dec (F s)) → (cs : List C) (s : S) → Along next P s cs → Split F P s cs
+  split F P tell [] s h = never tt
+  split F P tell (c ∷ cs) s h = by (tell s) (split F P tell cs (next s c) (h .1))
+    where
+      behind : ¬ F s → Split F P (next s c) cs → Split F P s (c ∷ cs)
+      behind n (never a) = never ((n, h .0), a)
+      behind n (splits ds es e a f r) = splits (c ∷ ds) es (ap (λ (l : List C). c ∷ l) e) ((n, h .0), a) f r
+
+      by : Dec (F s) → Split F P (next s c) cs → Split F P s (c ∷ cs)
+      by (yes f) r = splits [] (c ∷ cs) refl tt f h
+      by (no n) r = behind n r
 
 -- ---- one list, read in two ways: a call c as it is, and as the call `ruled c` of another kind, of which the same is seen
 

@@ -6,18 +6,17 @@ use mathlib.Core.List.{List}
 use Prim.Native.Nat.{ℕ}
 use native.Mathlib.Omega.{arith}
 use Rattle.numbers.specs.Answer.{Answer, gives, refused}
-use Rattle.exchange.specs.Base.{Geometry, BootStatus, BootNew, Testing, Success, UpdateStatus, UpdateNew, Updating, BootToUpdate, Flags, Malformed, AllF, At, All0}
-use Rattle.exchange.specs.Base.{firmware, sectorNumber, erased, Flash, Shaped, fits, statusByte, bootByte, bootStatusOf, bootStatusAt, updateByte, updateStatusOf, updateStatusAt, flagOf, flagByte, half, flagAt, flagsFrom, flags, allF, pastZeros, flagsShown, flagsAt}
+use Rattle.exchange.specs.Base.{Geometry, BootStatus, BootNew, Testing, Success, UpdateStatus, UpdateNew, Updating, Flags, Malformed, AllF, At, All0}
+use Rattle.exchange.specs.Base.{firmware, erased, Flash, Shaped, fits, statusByte, bootByte, bootStatusOf, bootStatusAt, updateByte, updateStatusOf, updateStatusAt, flagOf, flagByte, half, flagAt, flagsFrom, flags, allF, pastZeros, flagsShown, flagsAt}
 use Rattle.flash.specs.Sizes.{withinLimits}
 use Rattle.flash.specs.Buffers.{partitionFits}
 use Rattle.exchange.specs.declared.Area.the-variants.{Update}
 use Rattle.exchange.specs.declared.Operation.{Operation}
 use Rattle.exchange.specs.declared.Operation.the-variants.{EraseUpdateTrailer, WriteBootStatus, WriteUpdateStatus}
-use Rattle.exchange.specs.Operations.{perform, performAll}
+use Rattle.exchange.specs.Operations.{perform}
 use Rattle.exchange.specs.Commands.{Command, command, withStatuses, checked, mayArm, armOperations, armCommand, confirmFlags, mayConfirm, confirmOperations, confirmCommand}
 use Rattle.exchange.specs.RuledOut.{Reads}
-use Rattle.exchange.specs.Cases.{three}
-use Rattle.exchange.specs.CommandsRuledOut.{doneWith, refusedWith, TimeToArm, overNew, overSuccess, TimeToConfirm, onTest, Armable, ArmNumber, outsideRules, statusNotAllowed, wrongTime, ConfirmNumber, asArm, flagsNotWellFormed, RefusedAs, CommandsRuledOut, blank, onTestWith, CommandsMet}
+use Rattle.exchange.specs.CommandsRuledOut.{doneWith, TimeToArm, overNew, overSuccess, TimeToConfirm, onTest, Armable, ArmNumber, outsideRules, statusNotAllowed, wrongTime, ConfirmNumber, asArm, flagsNotWellFormed, RefusedAs, CommandsRuledOut, CommandsMet}
 use Rattle.flash.proofs.Checked.{shaped-of, shaped-fits}
 use Rattle.flash.proofs.Laws.{length-erased}
 use Rattle.flash_status.proofs.Ten.{boot-refused, update-refused}

@@ -18,7 +18,7 @@ use Rattle.exchange.specs.Order.{nextOperation, Run, run}
 use Rattle.exchange.specs.Decision.{Check, decide}
 use Rattle.exchange.specs.PowerUp.{refusal, PowerUp, idle, powerUp, nextAfter}
 use Rattle.exchange.specs.LostPower.{Torn, tearNext}
-use Rattle.exchange.specs.Demand.{Exchange, jobOf, Ongoing, Finished, untorn, lost, Event, left, Allowed, flashAfter, Underway, from-new, from-success, from-testing}
+use Rattle.exchange.specs.Demand.{Exchange, jobOf, ReadsFirmware, Ongoing, Finished, untorn, lost, Event, left, Allowed, flashAfter, most, Underway, from-new, from-success, from-testing}
 use Rattle.exchange.specs.Reached.{Reached, FinishReached, StagesReached}
 use Rattle.flash.proofs.Checked.{shaped-of}
 use Rattle.exchange.proofs.Accepted.{Accepted, accepted}
@@ -28,7 +28,7 @@ use Rattle.exchange.proofs.Walked.{closing-some, Walked, walked}
 use Rattle.exchange.proofs.Shows.{end-of, unfinished}
 use Rattle.exchange.proofs.Decided.{Decides, decided}
 use Rattle.exchange.proofs.Played.{OldRuns, old-runs, works, next-in, Played, played}
-use Rattle.exchange.proofs.Whole.{closing-most, Again, again, Begins, begins, starts-ongoing}
+use Rattle.exchange.proofs.Whole.{closing-most, Again, again, Begins, begins, starts-ongoing, StageOf, stage-of}
 
 -- a geometry of no sectors is refused
 pub no-sectors : (check : Check) (f : Flash) (budget : ℕ) → powerUp check (geometry 0 0) f budget ≡ idle (refusal (numbered 1 0)) f
@@ -128,6 +128,14 @@ finish-reached check x g f R s t T budget h =
     reached check g ((shaped-of g f (A .fit)) .limits) f B (old-runs check g f R (o .oldWhole) (o .oldGood)) (b .left - 1)
     (subst (λ (n : ℕ). Stage (Decides check g B) g f B f 0 n) e (b .stage)) (A .both .readBoot) (A .both .readUpdate) (s .flagsF) t T budget
     (omega (arith, b .counted, closing-some (closing B), closing-most B (firmware g)))
+
+-- from wherever an exchange is under way a power-up that keeps its power and has budget enough comes to the finish
+pub finish-from : (check : Check) (x : Exchange) (g : Geometry) (old f : Flash) (a : ℕ) → ReadsFirmware check g → Ongoing check x g old f a → ¬ Finished x g f
+    → (budget : ℕ) → most x (firmware g) ≤ budget → Finished x g ((left check f (untorn g budget)) .flash)
+finish-from check x g old f a R o not budget h =
+    let v : StageOf check x g old f a = stage-of check x g old f a o in
+    last check g ((shaped-of g f (o .fit)) .limits) old (v .under) (old-runs check g old R (o .oldWhole) (o .oldGood)) f (v .left) budget (v .stage) not
+    (omega (arith, v .few, closing-most (v .under) (firmware g))) .finished
 
 -- ---- every stage
 

@@ -10,10 +10,11 @@ use Rattle.exchange.specs.Decision.{Check}
 use Rattle.exchange.specs.Demand.{Exchange, Finished, InPlace, Ongoing, Event, Left, left, flashAfter, EachSafe, AtFinish, Safe}
 use Rattle.exchange.proofs.Along.{Same, same-after, same-sum, same-along}
 
-module _ (check : Check) {E : Type 0} (see : Flash → E → Left) (ruled : E → Event) where
-  abbrev at : Left → Flash
-  at l = l .flash
+-- the flash that is left
+abbrev pub at : Left → Flash
+at l = l .flash
 
+module _ (check : Check) {E : Type 0} (see : Flash → E → Left) (ruled : E → Event) where
   pub safe-seen : (x : Exchange) (g : Geometry) (old f : Flash) (a : ℕ) (es : List E) → Same at see (left check) ruled f es
       → Safe check (left check) x g old f a (map ruled es) → Safe check see x g old f a es
   safe-seen x g old f a es same s = by (same-after at see (left check) ruled es f same)

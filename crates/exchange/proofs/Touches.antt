@@ -1,14 +1,14 @@
 -- Each operation leaves what 01 says, and touches nothing else. Assumes nothing.
-use mathlib.Core.Path.{_≡_, refl, sym, ap, subst}
-use mathlib.Core.Logic.{_≢_, _⊎_, inl, inr}
-use mathlib.Core.Bool.{true, false, cond}
+use mathlib.Core.Path.{_≡_, refl}
+use mathlib.Core.Logic.{inl, inr}
+use mathlib.Core.Bool.{true, false}
 use mathlib.Core.List.{List}
-use Prim.Native.Nat.{ℕ, _+_, _*_, _≤_, _<_}
+use Prim.Native.Nat.{ℕ, _≤_}
 use native.Mathlib.Omega.{arith}
-use lib.ListN.{length, getD}
-use Rattle.flash_status.specs.StatusBytes.{statusPlace, setStatusByte}
-use Rattle.exchange.specs.Base.{Geometry, Leg, UpdateToSwap, BootToUpdate, SwapToBoot}
-use Rattle.exchange.specs.Base.{Flash, Shaped, firmware, partitionSize, sectorNumber, sectorOf, erased, statusByte, bootByte, updateByte}
+use lib.ListN.{length}
+use Rattle.flash_status.specs.StatusBytes.{setStatusByte}
+use Rattle.exchange.specs.Base.{Geometry}
+use Rattle.exchange.specs.Base.{Flash, Shaped, firmware, partitionSize, erased, statusByte, bootByte, updateByte}
 use Rattle.exchange.specs.declared.Area.{Area}
 use Rattle.exchange.specs.declared.Area.the-variants.{Boot, Update, Swap}
 use Rattle.exchange.specs.declared.Operation.{Operation}

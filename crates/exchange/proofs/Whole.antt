@@ -7,7 +7,7 @@ use native.Mathlib.Decide.{decLt}
 use native.Mathlib.Omega.{arith}
 use lib.ListN.{length}
 use Rattle.numbers.specs.Answer.{gives, noReason}
-use Rattle.exchange.specs.Base.{Geometry, BootStatus, Testing, UpdateStatus, Updating, Flag, Untouched, Exchanged, Known, Leg, UpdateToSwap, BootToUpdate, SwapToBoot, AllF}
+use Rattle.exchange.specs.Base.{Geometry, BootStatus, Testing, Success, UpdateStatus, Updating, Flag, Untouched, Exchanged, Known, Leg, UpdateToSwap, BootToUpdate, SwapToBoot, AllF}
 use Rattle.exchange.specs.Base.{firmware, partitionSize, Limits, Flash, Shaped, fits, bootStatusAt, updateStatusAt, moved, flagsAt}
 use Rattle.exchange.specs.declared.Area.{Area}
 use Rattle.exchange.specs.Operations.{get, oldBootIn, oldUpdateIn}
@@ -245,28 +245,43 @@ starts-ongoing check x g f s =
       decided = λ k. s .decided;
     }
 
-pub demand-3-ongoing : Demand3Ongoing
-demand-3-ongoing check x g old f a R o es h = by x (o .boot) (o .update) (o .statuses) (o .readBoot) (o .readUpdate) (o .decided) h
+-- an exchange under way is a stage, with no more operations left than its moves leave
+pub record StageOf (check : Check) (x : Exchange) (g : Geometry) (old f : Flash) (a : ℕ) : Type 0 where
+  pub boot : BootStatus
+  pub update : UpdateStatus
+  pub under : Underway x boot update
+  pub left : ℕ
+  pub stage : Stage (Decides check g under) g old under f 0 left
+  pub few : left + 3 * a ≤ 9 * firmware g + closingLeft (closing under)
+
+pub stage-of : (check : Check) (x : Exchange) (g : Geometry) (old f : Flash) (a : ℕ) → Ongoing check x g old f a → StageOf check x g old f a
+stage-of check x g old f a o = by x (o .boot) (o .update) (o .statuses) (o .readBoot) (o .readUpdate) (o .decided)
   where
     s : Shaped g f
     s = shaped-of g f (o .fit)
 
-    I : OldRuns check g old
-    I = old-runs check g old R (o .oldWhole) (o .oldGood)
-
     by : (y : Exchange) (b : BootStatus) (u : UpdateStatus) → StatusesAt (firmware g) y a b u → bootStatusAt g (f .boot) ≡ gives b
         → updateStatusAt g (f .update) ≡ gives u → (flagsAt g (f .update) ≡ AllF → decide check g f ≡ work (jobOf y) noReason)
-        → Allowed check y g f es → Safe check (left check) y g old f a es
-    by y b u (inLegs B) e₁ e₂ d h =
+        → StageOf check y g old f a
+    by y b u (inLegs B) e₁ e₂ d =
         let v = begins check g old f a B (o .fit) e₁ e₂ (o .stands) d in
-        safe check g (s .limits) old B (o .oldWhole) (o .oldGood) I a (o .stands .within) f (v .left) (v .stage, omega (arith, v .counted)) es h
-    by y b u (atClose e) e₁ e₂ d h =
-        safe check g (s .limits) old from-success (o .oldWhole) (o .oldGood) I a (o .stands .within) f 1 (
-          at-last Testing Updating erase-update (omega arith)
-              (crossed g (s .limits) old f (subst (λ (n : ℕ). Sound g old n f) e (placed g old f a s (o .stands)))) e₁ e₂ refl refl,
-          omega arith,
-        )
-        es h
+        record { boot = b; update = u; under = B; left = v .left; stage = v .stage; few = omega (arith, v .counted) }
+    by y b u (atClose e) e₁ e₂ d =
+        record {
+          boot = Success;
+          update = Updating;
+          under = from-success;
+          left = 1;
+          stage = at-last Testing Updating erase-update (omega arith)
+              (crossed g (s .limits) old f (subst (λ (n : ℕ). Sound g old n f) e (placed g old f a s (o .stands)))) e₁ e₂ refl refl;
+          few = omega arith;
+        }
+
+pub demand-3-ongoing : Demand3Ongoing
+demand-3-ongoing check x g old f a R o es h =
+    let v : StageOf check x g old f a = stage-of check x g old f a o in
+    safe check g ((shaped-of g f (o .fit)) .limits) old (v .under) (o .oldWhole) (o .oldGood) (old-runs check g old R (o .oldWhole) (o .oldGood)) a (o .stands .within) f (v .left)
+    (v .stage, v .few) es h
 
 pub demand-3 : Demand3
 demand-3 check x g f R s es h = demand-3-ongoing check x g f f 0 R (starts-ongoing check x g f s) es h

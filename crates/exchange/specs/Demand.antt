@@ -194,12 +194,16 @@ MovesOn x g before lostPower after = Unit {0}
 abbrev pub CutOrDone : Exchange → Geometry → Outcome → Flash → Type 0
 CutOrDone x g o f = ((o ≡ cut) × (¬ Finished x g f)) ⊎ ((o ≡ doneOutcome (jobOf x)) × Finished x g f)
 
--- What an untorn power-up answers: refusal 1 for a wrong geometry or length, which is the only refusal; else by what it leaves. No update
+-- What an untorn power-up answers: refusal 1 for a wrong geometry or length, which is the only refusal; else what is right there. No update
 -- is turned down, so no reason is told.
+abbrev pub Answers : (Outcome → Type 0) → Flash → Kept → Type 0
+Answers Right before (kept g′ budget o why) =
+    (why ≡ noReason) × (((fits g′ before ≡ false) × (o ≡ refusal (numbered 1 0))) ⊎ ((fits g′ before ≡ true) × Right o))
+Answers Right before lostPower = Unit {0}
+
+-- In an exchange it is right by the flash that is left.
 abbrev pub AnswersRight : Exchange → Geometry → Flash → Kept → Flash → Type 0
-AnswersRight x g before (kept g′ budget o why) after =
-    (why ≡ noReason) × (((fits g′ before ≡ false) × (o ≡ refusal (numbered 1 0))) ⊎ ((fits g′ before ≡ true) × CutOrDone x g o after))
-AnswersRight x g before lostPower after = Unit {0}
+AnswersRight x g before p after = Answers (λ o. CutOrDone x g o after) before p
 
 -- Each power-up makes progress, none undoes any, torn or not, before the finish, and each answers as it should.
 pub record EachSafe (x : Exchange) (g : Geometry) (before : Flash) (l : Left) : Type 0 where
