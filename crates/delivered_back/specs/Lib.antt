@@ -1,0 +1,3 @@
+-- What is claimed of the delivered calls, there and back.
+pub mod ThereAndBack
+pub mod Witness
