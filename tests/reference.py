@@ -1,6 +1,6 @@
 """Document 01's rules for headers, images, status bytes, flags and power-up, document 02's for mending, for what the digest covers, for
-tags that must be understood and for erase counts, and the rules of the release sheet, once more: written from the papers, with no code of
-the library.
+tags that must be understood, for erase counts and for an update there and back, and the rules of the release sheet, once more: written
+from the papers, with no code of the library.
 
 The scripts in this folder compare what the library's programs print with what this module says.
 """
@@ -490,3 +490,22 @@ def arm_counted(n, s, boot, update, swap, row, total):
     for operation in (("erase", "UPDATE", f.m, None), ("status", "UPDATE", f.m, 0x70)):
         f.perform(operation)
     return left_by(f, (0, 2), row)
+
+
+# ---- there and back (document 02, eight)
+
+
+def firmware_sectors(f):
+    """The firmware sectors of BOOT and of UPDATE, by area and number."""
+    return {(area, i): bytes(f.areas[area][i]) for area in ("BOOT", "UPDATE") for i in range(f.m)}
+
+
+def is_back(before, f):
+    """Whether these are the firmware sectors again, and the trailers end as the request says: BOOT SUCCESS, UPDATE NEW, flags all 0."""
+    trailers = f.status("BOOT"), f.status("UPDATE"), flags(f.m, f.areas["UPDATE"][f.m])
+    return firmware_sectors(f) == before and trailers == (0x00, 0xFF, "all 0")
+
+
+def most_operations(m, early_ends):
+    """Of an update and its fallback: demand 3's 9m + 3 and 9m + 1, and two for each early end in either."""
+    return (9 * m + 3) + (9 * m + 1) + 2 * early_ends

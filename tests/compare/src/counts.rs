@@ -237,7 +237,7 @@ fn refusals(c: &mut Compare, r: &mut Random, g: Geometry, flash: &Flash) {
 }
 
 /// A row with room for a list of power-ups.
-fn row_with_room(r: &mut Random, g: Geometry) -> Vec<u32> {
+pub fn row_with_room(r: &mut Random, g: Geometry) -> Vec<u32> {
     let below = r.pick(&[1, 100, 1 << 31, (1 << 32) - (1 << 20)]);
     (0..2 * g.n + 1).map(|_| r.below(below) as u32).collect()
 }

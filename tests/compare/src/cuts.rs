@@ -35,10 +35,22 @@ enum Event {
 #[derive(Clone)]
 pub struct Stage {
     pub flash: Flash,
-    counts: Option<Counts>,
-    done: u64,
-    early: u64,
+    pub counts: Option<Counts>,
+    pub done: u64,
+    pub early: u64,
     list: Vec<Event>,
+}
+
+impl Stage {
+    /// Where a list begins.
+    fn first(flash: Flash) -> Self {
+        Stage { flash, counts: None, done: 0, early: 0, list: Vec::new() }
+    }
+
+    /// Whether the last power-up lost its power.
+    pub fn lost_power(&self) -> bool {
+        matches!(self.list.last(), Some(Event::Lost { .. }))
+    }
 }
 
 /// What was tried.
@@ -49,17 +61,16 @@ pub struct Tried {
     pub lists: u64,
 }
 
-/// An update or a fallback: the flash that its list begins with, and the old sectors. These are of the same flash, unless it was
-/// mended, and then they are the ones that the flags show.
+/// An update or a fallback: where it begins, and the old sectors. These are of the same flash, unless it was mended, and then they are
+/// the ones that the flags show.
 pub struct Job {
-    g: Geometry,
-    begin: Flash,
+    pub g: Geometry,
+    /// The first stage of a list; or, of a fallback, the one where the same list has finished the update before it.
+    pub begin: Stage,
     old: Flash,
     fallback: bool,
-    /// The moves that the flags have behind them when the list begins.
+    /// The moves that the flags have behind them when it begins.
     behind: u64,
-    /// The erase counts that the list begins with, if they are kept.
-    counts: Option<Counts>,
 }
 
 /// Where a sector's two old contents stand by its flag.
@@ -80,13 +91,18 @@ pub fn moves(flag: u8) -> usize {
 
 impl Job {
     pub fn new(c: &Compare, g: Geometry, old: Flash, fallback: bool) -> Self {
-        Job { g, begin: old.clone(), old, fallback, behind: 0, counts: None }.seen(c)
+        Job { g, begin: Stage::first(old.clone()), old, fallback, behind: 0 }.seen(c)
     }
 
     /// The same, and every power-up counts its erases, from this row on.
-    pub fn counting(self, row: Vec<u32>) -> Self {
-        let counts = Some(Counts { total: sum(&row), row });
-        Job { counts, ..self }
+    pub fn counting(mut self, row: Vec<u32>) -> Self {
+        self.begin.counts = Some(Counts { total: sum(&row), row });
+        self
+    }
+
+    /// The fallback that the list goes on with, now that this update has finished.
+    pub fn fallback_from(&self, c: &Compare, finish: &Stage) -> Self {
+        Job { g: self.g, begin: finish.clone(), old: finish.flash.clone(), fallback: true, behind: 0 }.seen(c)
     }
 
     /// The rest of an update whose flags were mended, for the images that they show.
@@ -94,19 +110,20 @@ impl Job {
         let flags = begin.flags(g);
         let (boot, update) = old_images(g, &begin, &flags);
         let behind = flags.iter().map(|flag| moves(*flag) as u64).sum();
-        Job { g, old: Flash { boot, update, swap: begin.swap.clone() }, begin, fallback: false, behind, counts: None }.seen(c)
+        let old = Flash { boot, update, swap: begin.swap.clone() };
+        Job { g, begin: Stage::first(begin), old, fallback: false, behind }.seen(c)
     }
 
     fn seen(self, c: &Compare) -> Self {
-        let start = self.start();
+        let start = &self.begin;
         if self.finished(&start.flash) || plan(self.g, &start.flash).map_or(true, |p| p.reason.is_some()) {
-            self.broken(c, "no start of an exchange", &start, &start);
+            self.broken(c, "no start of an exchange", start, start);
         }
         self
     }
 
     pub fn start(&self) -> Stage {
-        Stage { flash: self.begin.clone(), counts: self.counts.clone(), done: 0, early: 0, list: Vec::new() }
+        self.begin.clone()
     }
 
     pub fn finished(&self, f: &Flash) -> bool {
@@ -152,9 +169,10 @@ impl Job {
     }
 
     fn holds(&self, c: &Compare, before: &Stage, after: &Stage, some_flag: bool) {
-        let bound = 9 * self.g.m() as u64 - 3 * self.behind + if self.fallback { 1 } else { 3 } + 2 * after.early;
+        let (done, early) = (after.done - self.begin.done, after.early - self.begin.early);
+        let bound = 9 * self.g.m() as u64 - 3 * self.behind + if self.fallback { 1 } else { 3 } + 2 * early;
         let f = &after.flash;
-        if after.done > bound {
+        if done > bound {
             self.broken(c, "more operations than the bound", before, after);
         }
         if self.finished(f) {
@@ -175,13 +193,18 @@ impl Job {
     }
 
     fn broken(&self, c: &Compare, what: &str, before: &Stage, after: &Stage) -> ! {
-        println!("DEMAND 3 BROKEN: {what}; call {} of seed {}", c.calls, c.seed);
+        self.broken_claim(c, "DEMAND 3", what, before, after)
+    }
+
+    /// Prints all of a list that broke this claim, and fails.
+    pub fn broken_claim(&self, c: &Compare, claim: &str, what: &str, before: &Stage, after: &Stage) -> ! {
+        println!("{claim} BROKEN: {what}; call {} of seed {}", c.calls, c.seed);
         println!("{}, {:?}", if self.fallback { "fallback" } else { "update" }, self.g);
         println!("{} operations, {} early ends: {:?}", after.done, after.early, after.list);
-        if let (Some(begin), Some(was), Some(is)) = (&self.counts, &before.counts, &after.counts) {
+        if let (Some(begin), Some(was), Some(is)) = (&self.begin.counts, &before.counts, &after.counts) {
             println!("counts at the start {begin:?}, before {was:?}, after {is:?}");
         }
-        let all = [("old", &self.old), ("start", &self.begin), ("before", &before.flash), ("after", &after.flash)];
+        let all = [("old", &self.old), ("start", &self.begin.flash), ("before", &before.flash), ("after", &after.flash)];
         for (when, f) in all {
             for (name, b) in [("boot", &f.boot), ("update", &f.update), ("swap", &f.swap)] {
                 println!("  {name}, {when}: {}", hex(b, &format!("{}-{}-{when}-{name}", c.seed, c.calls)));
@@ -227,7 +250,7 @@ impl Job {
     }
 
     /// A power-up that loses no power. It is cut or finishes, and with a budget of three or more it gets on.
-    fn untorn(&self, c: &mut Compare, at: &Stage, budget: u64) -> Stage {
+    pub fn untorn(&self, c: &mut Compare, at: &Stage, budget: u64) -> Stage {
         let (number, row, mut next) = self.power_up(c, self.g, at, budget);
         next.done += row[1];
         next.list.push(Event::Untorn { budget });
@@ -286,6 +309,17 @@ impl Job {
         (0..=operations.len()).flat_map(|k| self.lose(c, r, at, k as u64, operations.get(k).copied())).collect()
     }
 
+    /// A power-up behind the finish of a fallback: BOOT runs, no operation is done, and nothing changes.
+    pub fn at_rest(&self, c: &mut Compare, at: &Stage, budget: u64) -> Stage {
+        let (number, row, mut next) = self.power_up(c, self.g, at, budget);
+        next.list.push(Event::Untorn { budget });
+        if number != 0 || row != [2, 0, 0, 0, 0, 0] || next.flash != at.flash || next.counts != at.counts {
+            let what = format!("at rest the answer is {number}, {row:?}, or something changed");
+            self.broken_claim(c, "THERE AND BACK", &what, at, &next);
+        }
+        next
+    }
+
     pub fn finish(&self, c: &mut Compare, at: &Stage) {
         if !self.finished(&at.flash) {
             let end = self.untorn(c, at, u64::MAX);
@@ -323,19 +357,23 @@ impl Job {
         }
     }
 
+    /// Power lost at some operation, in every way.
+    pub fn any_loss(&self, c: &mut Compare, r: &mut Random, at: &Stage) -> Vec<Stage> {
+        let operations = self.operations(c, at);
+        let k = r.below(operations.len());
+        self.lose(c, r, at, k as u64, operations.get(k).copied())
+    }
+
     /// A cut at some operation in all ways, and the rest.
     pub fn any_cut(&self, c: &mut Compare, r: &mut Random, tried: &mut Tried) {
-        let start = self.start();
-        let operations = self.operations(c, &start);
-        let k = r.below(operations.len());
-        for left in self.lose(c, r, &start, k as u64, operations.get(k).copied()) {
+        for left in self.any_loss(c, r, &self.start()) {
             tried.single_cuts += 1;
             self.finish(c, &left);
         }
     }
 
     /// Another geometry is refused and changes nothing.
-    fn wrong_geometry(&self, c: &mut Compare, r: &mut Random, at: &Stage) -> Stage {
+    pub fn wrong_geometry(&self, c: &mut Compare, r: &mut Random, at: &Stage) -> Stage {
         let mut g = self.g;
         while g == self.g {
             g = other_geometry(r, self.g);
@@ -348,31 +386,36 @@ impl Job {
         next
     }
 
+    /// Any power-up before the finish.
+    pub fn any_power_up(&self, c: &mut Compare, r: &mut Random, at: &Stage) -> Stage {
+        let operations = self.operations(c, at);
+        let some = r.within(0, operations.len());
+        let few = some.min(r.below(12));
+        match r.below(10) {
+            0 => self.wrong_geometry(c, r, at),
+            1..=4 => {
+                let k = r.pick(&[few, few, some]);
+                let ways = self.lose(c, r, at, k as u64, operations.get(k).copied());
+                ways[r.below(ways.len())].clone()
+            }
+            _ => {
+                let budget = r.pick(&[few, few, few, some]) as u64;
+                self.untorn(c, at, budget)
+            }
+        }
+    }
+
     /// A list of any power-ups, up to the finish.
     pub fn any_list(&self, c: &mut Compare, r: &mut Random) {
         let mut at = self.start();
         while !self.finished(&at.flash) {
-            let operations = self.operations(c, &at);
-            let some = r.within(0, operations.len());
-            let few = some.min(r.below(12));
-            at = match r.below(10) {
-                0 => self.wrong_geometry(c, r, &at),
-                1..=4 => {
-                    let k = r.pick(&[few, few, some]);
-                    let ways = self.lose(c, r, &at, k as u64, operations.get(k).copied());
-                    ways[r.below(ways.len())].clone()
-                }
-                _ => {
-                    let budget = r.pick(&[few, few, few, some]) as u64;
-                    self.untorn(c, &at, budget)
-                }
-            };
+            at = self.any_power_up(c, r, &at);
         }
     }
 }
 
 /// A good and newer update, armed, with this status of BOOT. What the trailers hold besides is left to chance.
-fn armed(r: &mut Random, g: Geometry, boot: u8) -> Flash {
+pub fn armed(r: &mut Random, g: Geometry, boot: u8) -> Flash {
     let version = r.below(1000) as u32;
     let mut f = Flash { boot: partition(r, g, version, 0), update: partition(r, g, version + 1, 0), swap: r.bytes(g.s) };
     set_trailers(g, &mut f, boot, UPDATING, false);

@@ -1,10 +1,11 @@
 //! Runs the library against the reference: random and damaged inputs, then images with each byte damaged, then tags of types around 8000
 //! with every other fault, then every cut and every pair of cuts for small partitions, then flags that are spoiled at every cut and mended,
-//! then power-ups and arms that count their erases.
+//! then power-ups and arms that count their erases, then updates there and back with cuts in both halves.
 //!
 //! compare [CALLS] [SEED]: the number of random calls (default 1,000,000) and the seed. Every number and byte that a call leaves is
 //! compared. A difference is printed whole and fails (status 1); so does an answer that is never met, unless the calls are fewer than
 //! the default: then that is said, with status 3.
+mod back;
 mod call;
 mod calls;
 mod counts;
@@ -55,7 +56,8 @@ fn argument(at: usize, default: u64) -> u64 {
 fn main() {
     let (calls, seed) = (argument(1, ENOUGH), argument(2, 20_261_115));
     println!(
-        "seed {seed}, {calls} random calls, then damaged images, then types around 8000, then cuts, then mending, then counts"
+        "seed {seed}, {calls} random calls, then damaged images, then types around 8000, then cuts, then mending, then counts, \
+         then there and back"
     );
     catch_signals();
     let mut r = Random(seed);
@@ -86,16 +88,22 @@ fn main() {
     println!("answers of mending, and of the power-ups before and behind it:");
     mending.print();
     let counts = counts::try_counts(&mut c, &mut r);
+    let counted = c.calls;
+    let counting = std::mem::take(&mut c.tally);
     println!("answers of the power-ups and arms that count erases, and of the power-ups beside them:");
+    counting.print();
+    let trips = back::try_back(&mut c, &mut r);
+    println!("answers there and back:");
     c.tally.print();
     println!(
         "seed {seed}: {random} random calls, {} on damaged images, {} on types around 8000, {} power-ups with cuts, {} around mending, \
-         {} around erase counts",
+         {} around erase counts, {} there and back",
         damaged - random,
         understood - damaged,
         cut - understood,
         mended - cut,
-        c.calls - mended
+        counted - mended,
+        c.calls - counted
     );
     covers.print();
     critical.print();
@@ -105,12 +113,21 @@ fn main() {
         "{} power-ups and {} arms with erase counts in all; {} single cuts, {} pairs of cuts, {} lists, {} flashes with every budget",
         c.counted[0], c.counted[1], counts.tried.single_cuts, counts.tried.pairs, counts.tried.lists, counts.flashes
     );
-    let never =
-        [covered.missing_of_covers(), types.missing_of_critical(), mending.missing_of_mends(), c.tally.missing_of_counts()]
-            .concat();
+    println!(
+        "{} updates there and back: {} single cuts, {} pairs of a cut in each half, {} lists",
+        trips.updates, trips.tried.single_cuts, trips.tried.pairs, trips.tried.lists
+    );
+    let never = [
+        covered.missing_of_covers(),
+        types.missing_of_critical(),
+        mending.missing_of_mends(),
+        counting.missing_of_counts(),
+        c.tally.missing_of_back(),
+    ]
+    .concat();
     if !never.is_empty() {
         println!(
-            "no difference, but NEVER MET with damaged images, types around 8000, in mending or in counts:\n  {}",
+            "no difference, but NEVER MET with damaged images, types around 8000, in mending, in counts or there and back:\n  {}",
             never.join("\n  ")
         );
         std::process::exit(1);

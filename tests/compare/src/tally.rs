@@ -95,6 +95,13 @@ impl Tally {
         all.chain(power_ups).filter(|what| !self.answers.contains_key(what)).collect()
     }
 
+    /// What was never met of what the lists there and back have to meet, with the plain power-up and with the counted one.
+    pub fn missing_of_back(&self) -> Vec<String> {
+        let all =
+            ["", " with counts"].iter().flat_map(|counts| BACK.iter().map(move |what| format!("there and back{counts}: {what}")));
+        all.filter(|what| !self.answers.contains_key(what)).collect()
+    }
+
     /// What was never met of the answers that can be met, and of the wrong lengths.
     pub fn missing(&self) -> Vec<String> {
         let answers = answers_to_meet().into_iter().filter(|what| !self.answers.contains_key(what));
@@ -382,6 +389,22 @@ const COUNTED_POWER_UPS: [&str; 10] = [
     "turned down, cut",
     "turned down, run",
     "a count becomes 4294967295",
+];
+
+/// Of the updates that fall back: the bound of both halves together is met, power is lost at the very end of each, and behind them
+/// nothing changes.
+const BACK: [&str; 11] = [
+    "as many operations as the bound, no early end",
+    "as many operations as the bound, early ends in the update",
+    "as many operations as the bound, early ends in the fallback",
+    "as many operations as the bound, early ends in both halves",
+    "one operation less than the bound, from BOOT NEW",
+    "power lost with the update's last bytes standing",
+    "power lost with the fallback's last bytes standing",
+    "run at rest",
+    "refused 1 at rest",
+    "power lost at rest",
+    "armed again at rest",
 ];
 
 /// Of the mends that follow an exchange, beside the random ones.

@@ -15,7 +15,8 @@ usage!(COMPARE_USAGE, "tainhosa compare [--json] IMAGE IMAGE");
 usage!(EXPLAIN_USAGE, "tainhosa explain [--json] NUMBER [PLACE [INNER-NUMBER INNER-PLACE]]");
 usage!(
     SIMULATE_USAGE,
-    "tainhosa simulate --boot IMAGE --update IMAGE --sectors N --size S [--cut K]... [--torn] [--confirm|--fall-back] [--counts] [--json]"
+    "tainhosa simulate --boot IMAGE --update IMAGE --sectors N --size S [--cut K]... [--torn] [--confirm|--fall-back|--back] \
+     [--counts] [--json]"
 );
 usage!(MEND_USAGE, "tainhosa mend --sectors N --size S [--dry-run] [--json] BOOT UPDATE SWAP");
 

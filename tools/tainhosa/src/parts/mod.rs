@@ -94,7 +94,7 @@ pub const ALL: [Part; 8] = [
         usage: help::SIMULATE_USAGE,
         help: help::SIMULATE,
         words: 0..=0,
-        switches: &["--json", "--torn", "--confirm", "--fall-back", "--counts"],
+        switches: &["--json", "--torn", "--confirm", "--fall-back", "--back", "--counts"],
         options: &["--boot", "--update", "--sectors", "--size", "--cut"],
         repeated: &["--cut"],
         run: simulate::run,

@@ -1,10 +1,12 @@
-//! `tainhosa simulate`: an update on a flash in memory, with power lost where the user says.
+//! `tainhosa simulate`: an update on a flash in memory, with power lost where the user says; and there and back, up to the end of its
+//! fallback.
 use crate::arguments::Parsed;
 use crate::files;
 use crate::json::Json;
 use crate::parts::check::{geometry, partition};
 use crate::said::{in_words, line, Said, Stop, GOOD, REFUSED};
 use std::ffi::OsStr;
+use std::fmt;
 use tainhosa::{Flag, Flash, Geometry, Image, Outcome, PowerUp, Refusal, Status};
 
 /// What a sector holds whose erase or copy was broken off.
@@ -23,6 +25,21 @@ struct Buffers {
 struct Sector {
     area: &'static str,
     number: usize,
+}
+
+impl Sector {
+    fn json(&self) -> Json {
+        Json::object([("area", Json::text(self.area)), ("sector", Json::Number(self.number as u64))])
+    }
+}
+
+impl fmt::Display for Sector {
+    fn fmt(&self, f: &mut fmt::Formatter<'_>) -> fmt::Result {
+        match self.area {
+            "SWAP" => f.write_str("SWAP"),
+            area => write!(f, "{area} sector {}", self.number),
+        }
+    }
 }
 
 impl Buffers {
@@ -75,6 +92,17 @@ impl Buffers {
         };
         bytes[at..][..self.geometry.size()].fill(TORN);
     }
+
+    /// The firmware sectors of BOOT and of UPDATE that are not as they were before.
+    fn changed_since(&self, before: &Buffers) -> Vec<Sector> {
+        let (size, count) = (self.geometry.size(), self.geometry.firmware_sectors());
+        let mut changed = vec![];
+        for (area, was, is) in [("BOOT", &before.boot, &self.boot), ("UPDATE", &before.update, &self.update)] {
+            let sectors = was.chunks(size).zip(is.chunks(size)).take(count).enumerate();
+            changed.extend(sectors.filter(|(_, (was, is))| was != is).map(|(number, _)| Sector { area, number }));
+        }
+        changed
+    }
 }
 
 /// The service sheet: how often each sector was erased, those of BOOT first, then those of UPDATE, then SWAP; and all together.
@@ -121,6 +149,8 @@ impl Counts {
 /// What was done to the flash, and what it shows then.
 struct Step {
     what: String,
+    /// Of a power-up, what it came to.
+    came_to: Option<Outcome>,
     outcome: String,
     operations: u64,
     torn: Option<Sector>,
@@ -147,6 +177,7 @@ impl Step {
         let flash = buffers.flash()?;
         Ok(Step {
             what,
+            came_to: None,
             outcome: outcome.to_string(),
             operations,
             torn: None,
@@ -177,6 +208,7 @@ impl Step {
             Outcome::RunFallenBack => ("run, fallen back".to_string(), None),
         };
         let mut step = Step::new(buffers, format!("power-up {number}"), &outcome, answer.operations)?;
+        step.came_to = Some(answer.outcome);
         step.refused = refused;
         step.turned_down = answer.turned_down;
         Ok(step)
@@ -184,19 +216,12 @@ impl Step {
 
     fn line(&self) -> String {
         let Step { what, outcome, operations, flags, boot, update, .. } = self;
-        let torn = match &self.torn {
-            None => String::new(),
-            Some(Sector { area: "SWAP", .. }) => "; SWAP torn".to_string(),
-            Some(sector) => format!("; {} sector {} torn", sector.area, sector.number),
-        };
+        let torn = self.torn.as_ref().map_or(String::new(), |sector| format!("; {sector} torn"));
         let reason = self.turned_down.map_or(String::new(), |r| format!("; turned down with {} at {}", r.number, r.place));
         format!("{what}: {outcome}; operations {operations}; flags {flags}; BOOT {boot}; UPDATE {update}{torn}{reason}\n")
     }
 
     fn json(&self) -> Json {
-        let torn = self.torn.as_ref().map_or(Json::Null, |sector| {
-            Json::object([("area", Json::text(sector.area)), ("sector", Json::Number(sector.number as u64))])
-        });
         Json::object([
             ("what", Json::text(&self.what)),
             ("outcome", Json::text(&self.outcome)),
@@ -204,9 +229,72 @@ impl Step {
             ("flags", Json::text(&self.flags)),
             ("boot", Json::text(self.boot.to_string())),
             ("update", Json::text(self.update.to_string())),
-            ("torn", torn),
+            ("torn", self.torn.as_ref().map_or(Json::Null, Sector::json)),
             ("turned_down", self.turned_down.as_ref().map_or(Json::Null, Json::refusal)),
             ("refused", self.refused.as_ref().map_or(Json::Null, Json::refusal)),
+        ])
+    }
+}
+
+/// There and back: what an update that was not confirmed leaves behind its fallback.
+struct Back {
+    /// Whether a power-up has fallen back. It has not if the update was turned down or refused, and then there is nothing else to say.
+    fallen_back: bool,
+    /// The firmware sectors that are not as they were before the update.
+    changed: Vec<Sector>,
+    firmware_sectors: u64,
+    /// The operations of all power-ups, and how many of these lost power.
+    operations: u64,
+    early_ends: u64,
+}
+
+impl Back {
+    fn new(before: &Buffers, after: &Buffers, steps: &[Step]) -> Back {
+        let came_to = |outcome| steps.iter().filter(move |step| step.came_to == Some(outcome)).count() as u64;
+        Back {
+            fallen_back: came_to(Outcome::RunFallenBack) > 0,
+            changed: after.changed_since(before),
+            firmware_sectors: after.geometry.firmware_sectors() as u64,
+            operations: steps.iter().filter(|step| step.came_to.is_some()).map(|step| step.operations).sum(),
+            early_ends: came_to(Outcome::Cut),
+        }
+    }
+
+    /// The most operations that an update and its fallback have together.
+    fn most(&self) -> u64 {
+        18 * self.firmware_sectors + 4 + 2 * self.early_ends
+    }
+
+    /// Whether all was given back, with no more operations than there may be.
+    fn good(&self) -> bool {
+        self.fallen_back && self.changed.is_empty() && self.operations <= self.most()
+    }
+
+    fn lines(&self) -> String {
+        if !self.fallen_back {
+            return "there and back: no, the update did not fall back\n".to_string();
+        }
+        let sectors = if self.changed.is_empty() {
+            "every firmware sector of BOOT and of UPDATE is as it was before the update".to_string()
+        } else {
+            let names: Vec<String> = self.changed.iter().map(Sector::to_string).collect();
+            format!("NOT as before the update: {}", names.join(", "))
+        };
+        let Back { firmware_sectors, operations, early_ends, .. } = self;
+        let most = format!("{} operations (18 x {firmware_sectors} + 4 + 2 x {early_ends})", self.most());
+        format!("there and back: {sectors}\nall power-ups: operations {operations}; early ends {early_ends}; at most {most}\n")
+    }
+
+    fn json(&self) -> Json {
+        if !self.fallen_back {
+            return Json::Null;
+        }
+        Json::object([
+            ("as_before", Json::Bool(self.changed.is_empty())),
+            ("changed", Json::List(self.changed.iter().map(Sector::json).collect())),
+            ("operations", Json::Number(self.operations)),
+            ("early_ends", Json::Number(self.early_ends)),
+            ("at_most", Json::Number(self.most())),
         ])
     }
 }
@@ -217,6 +305,8 @@ struct Plan {
     torn: bool,
     confirm: bool,
     fall_back: bool,
+    /// It falls back too, and it is said what was given back.
+    back: bool,
 }
 
 /// What it is played on: the flash, and the service sheet if one is asked for.
@@ -251,10 +341,14 @@ impl Printer {
 impl Plan {
     fn of(given: &Parsed) -> Result<Plan, Stop> {
         let cuts: Result<Vec<u64>, Stop> = given.every("--cut").map(|text| given.number("--cut", text)).collect();
-        let plan =
-            Plan { cuts: cuts?, torn: given.has("--torn"), confirm: given.has("--confirm"), fall_back: given.has("--fall-back") };
-        if plan.confirm && plan.fall_back {
-            return Err(given.wrong("an update that is confirmed does not fall back: give --confirm or --fall-back"));
+        let [torn, confirm, fall_back, back] = ["--torn", "--confirm", "--fall-back", "--back"].map(|switch| given.has(switch));
+        let plan = Plan { cuts: cuts?, torn, confirm, fall_back, back };
+        if plan.confirm && (plan.fall_back || plan.back) {
+            let other = if plan.fall_back { "--fall-back" } else { "--back" };
+            return Err(given.wrong(format!("an update that is confirmed does not fall back: give --confirm or {other}")));
+        }
+        if plan.fall_back && plan.back {
+            return Err(given.wrong("--back falls back too, and then says what was given back: give --fall-back or --back"));
         }
         if plan.torn && plan.cuts.is_empty() {
             return Err(given.wrong("--torn needs a --cut"));
@@ -267,7 +361,7 @@ impl Plan {
         let before = printer.buffers.clone();
         let answer = printer.power_up(budget)?;
         let buffers = &mut printer.buffers;
-        let number = steps.iter().filter(|step| step.what.starts_with("power-up")).count() + 1;
+        let number = steps.iter().filter(|step| step.came_to.is_some()).count() + 1;
         let mut torn = None;
         if answer.outcome == Outcome::Cut && self.torn {
             torn = before.may_tear(buffers, budget)?;
@@ -294,7 +388,7 @@ impl Plan {
         if last == Outcome::Cut {
             last = self.power_up(printer, u64::MAX, &mut steps)?;
         }
-        if last == Outcome::RunOnTest && self.fall_back {
+        if last == Outcome::RunOnTest && (self.fall_back || self.back) {
             self.power_up(printer, u64::MAX, &mut steps)?;
         }
         Ok(steps)
@@ -320,11 +414,16 @@ pub fn run(given: &Parsed) -> Result<Said, Stop> {
     let (boot, update) = (image(boot)?, image(update)?);
     let counts = given.has("--counts").then(|| Counts::new(geometry));
     let mut printer = Printer { buffers: Buffers::new(geometry, &boot, &update), counts };
+    let before = plan.back.then(|| printer.buffers.clone());
     let steps = plan.play(&mut printer)?;
+    let back = before.map(|before| Back::new(&before, &printer.buffers, &steps));
     let mut notes = vec![];
     for step in &steps {
         notes.extend(step.turned_down.iter().map(|r| in_words(&format!("{}: the update is turned down", step.what), r)));
         notes.extend(step.refused.iter().map(|r| in_words(&step.what, r)));
+    }
+    if notes.is_empty() && back.as_ref().map_or(false, |back| !back.good()) {
+        notes.push("the way there and back did not end as it has to".to_string());
     }
     let status = if notes.is_empty() { GOOD } else { REFUSED };
     let held = Image::check_partition(geometry, &printer.buffers.boot);
@@ -335,14 +434,17 @@ pub fn run(given: &Parsed) -> Result<Said, Stop> {
         };
         let counts = printer.counts.as_ref().map_or(Json::Null, Counts::json);
         let steps = Json::List(steps.iter().map(Step::json).collect());
-        line(Json::object([("steps", steps), ("boot_holds", held), ("counts", counts)]))
+        let mut fields = vec![("steps", steps), ("boot_holds", held), ("counts", counts)];
+        fields.extend(back.iter().map(|back| ("back", back.json())));
+        line(Json::Object(fields))
     } else {
         let held = match &held {
             Ok(image) => format!("version {}, good", image.header().version),
             Err(refusal) => format!("no good image, {refusal}"),
         };
         let counts = printer.counts.as_ref().map_or(String::new(), Counts::lines);
-        format!("{}BOOT holds {held}\n{counts}", steps.iter().map(Step::line).collect::<String>())
+        let back = back.as_ref().map_or(String::new(), Back::lines);
+        format!("{}BOOT holds {held}\n{back}{counts}", steps.iter().map(Step::line).collect::<String>())
     };
     Ok(Said { out, notes, status })
 }
