@@ -5,12 +5,11 @@ use mathlib.Core.Option.{none}
 use Prim.Native.Nat.{ℕ, _+_}
 use native.Mathlib.Omega.{arith}
 use lib.ListN.{getD}
-use Rattle.flash.specs.Sizes.{firmware}
 use Rattle.flash.specs.Buffers.{Flash}
 use Rattle.flash_status.specs.declared.BootStatus.the-variants.{Testing, Success}
 use Rattle.flash_status.specs.declared.UpdateStatus.the-variants.{New, Updating}
 use Rattle.flash.proofs.Checked.{shaped-of}
-use Rattle.flash.proofs.Bytes.{sectors-front}
+use Rattle.exchange.proofs.Accepted.{check-same}
 use Rattle.exchange.specs.PowerUp.{cut, runsOnTest, runsFallenBack, powerUp}
 use Rattle.exchange.specs.Demand.{update, from-success, untorn, Starts, left, completed, earlyEnds, isCut, AtFinish, Safe}
 use Rattle.exchange.specs.Cases.{three, UpdateReady, FallbackReady, LeavesAs, Leaves, leaves, counts, lastOutcome}
@@ -64,8 +63,7 @@ module _ (f : Flash) (r : UpdateReady checkOf f) where
     updateGood =
         let s = shaped-of three f (r .fit) in
         let s₁ = shaped-of three f₁ (safe .fit) in
-        reads-firmware three (f₁ .update) (f .boot) (s₁ .update) (s .boot)
-        (sectors-front 256 (firmware three) (f₁ .update) (f .boot) (λ i h. finished .exchanged i h .updateHolds)) ∙ r .bootGood;
+        check-same checkOf three (reads-firmware three) (f₁ .update) (f .boot) (s₁ .update) (s .boot) (λ i h. finished .exchanged i h .updateHolds) ∙ r .bootGood;
   }
 
   after-fallback : LeavesAs checkOf f₁ (100 ∷ []) (leaves (19 ∷ []) runsFallenBack none Success New)

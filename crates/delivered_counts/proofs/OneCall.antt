@@ -17,6 +17,7 @@ use Rattle.exchange.specs.Decision.{Plan, refuse, plain, work, decide}
 use Rattle.exchange.specs.PowerUp.{PowerUp, refusal, idle, powerUp, operationsIn, operationsOf}
 use Rattle.exchange.proofs.Runs.{run-count, run-within}
 use Rattle.exchange.proofs.RuledOut.{ruled-out}
+use Rattle.exchange.proofs.Played.{outside-decided}
 use Rattle.image.specs.Verdict.{checkOf}
 use Rattle.counts.specs.Row.{rowLength, raised, sum, someAbove}
 use Rattle.counts.specs.Calls.{Counted, checkCounted, countedPowerUp}
@@ -62,12 +63,11 @@ pub record IsPowerUp (g : Geometry) (f : Flash) (h : Handed) (r : CountedGave) :
 -- outside the rules power-up does nothing too
 module _ (g : Geometry) (f : Flash) (budget : ℕ) (e : fits g f ≡ false) where
   outside-up : idle (refusal (numbered 1 0)) f ≡ powerUp checkOf g f budget
-  unfolding powerUp decide
-  outside-up = rw e refl
+  outside-up = sym (ruled-out .outsideFirst checkOf g f budget e)
 
   none-done : operationsOf checkOf g f budget ≡ []
-  unfolding operationsOf decide
-  none-done = rw e refl
+  unfolding operationsOf
+  none-done = ap (operationsIn g f budget) (outside-decided checkOf g f e)
 
 module _ (f : Flash) (h : Handed) (r : CountedGave) (k : Gives f h r) where
   -- the checks of row and total, by what they gave

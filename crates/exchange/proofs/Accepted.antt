@@ -1,18 +1,26 @@
 -- What an accepted update and an accepted fallback are, spelled out, and that the checks of power-up give it where all flags are F.
 use mathlib.Core.Path.{_≡_, refl, sym, ap, _∙_}
 use mathlib.Core.Bool.{Bool, true, false, cond}
+use mathlib.Core.List.{List}
 use Prim.Native.Nat.{ℕ, _≤_, _<_}
 use native.Mathlib.Decide.{decLt}
 use native.Mathlib.Omega.{arith}
 use lib.Dec.{ltb}
+use lib.ListN.{length}
 use borrow.Author.Tests.{lt-ltb, le-ltb}
 use Rattle.numbers.specs.Answer.{Answer, gives, refused, because, noReason, Refusal, inside}
 use Rattle.exchange.specs.Base.{Geometry, BootStatus, BootNew, Testing, Success, UpdateStatus, UpdateNew, Updating, Flags, AllF}
-use Rattle.exchange.specs.Base.{Flash, fits, bootStatusAt, updateStatusAt, flagsAt}
+use Rattle.exchange.specs.Base.{firmware, partitionSize, sectorOf, Flash, fits, bootStatusAt, updateStatusAt, flagsAt}
 use Rattle.exchange.specs.declared.Job.the-variants.{Update, Fallback, TurnDown}
 use Rattle.exchange.specs.Decision.{Check, Plan, refuse, plain, work, accept, acceptFallback, decideBy, decideStatuses, decide, Good}
-use Rattle.exchange.specs.Demand.{Exchange, update, fallback, jobOf, Underway, from-new, from-success, from-testing, Starts}
+use Rattle.exchange.specs.Demand.{Exchange, update, fallback, jobOf, Underway, from-new, from-success, from-testing, Starts, ReadsFirmware}
 use Rattle.exchange.specs.RuledOut.{Newer}
+use Rattle.flash.proofs.Bytes.{sectors-front}
+
+-- a check that reads the firmware sectors goes by the sectors
+pub check-same : (check : Check) (g : Geometry) → ReadsFirmware check g → (l l′ : List ℕ) → length l ≡ partitionSize g → length l′ ≡ partitionSize g
+    → ((i : ℕ) → i < firmware g → sectorOf g i l ≡ sectorOf g i l′) → check g l ≡ check g l′
+check-same check g R l l′ L L′ h = R l l′ L L′ (sectors-front (g .size) (firmware g) l l′ h)
 
 -- the answers of the image check, on UPDATE and on BOOT
 abbrev pub Images : Exchange → Answer ℕ → Answer ℕ → Type 0

@@ -18,9 +18,9 @@ use Rattle.exchange.specs.Decision.{Check, refuse, decide, Good}
 use Rattle.exchange.specs.PowerUp.{refusal, PowerUp, outcomeBy, worked, idle, carryOut, powerUp, nextIn, nextAfter}
 use Rattle.exchange.specs.LostPower.{Torn, tearNext}
 use Rattle.exchange.specs.Demand.{Exchange, update, jobOf, ReadsFirmware, Finished, untorn, lost, Event, Left, leftUntorn, left, flashLeft, EndsAsAllowed, FlagMovedOn, IsRefusal, MovesOn, CutOrDone, AnswersRight, Underway, leftLost}
-use Rattle.flash.proofs.Bytes.{sectors-front}
 use Rattle.flash.proofs.Checked.{shaped-of, shaped-fits, same-geometry}
 use Rattle.flash_flags.proofs.Moves.{leg-below}
+use Rattle.exchange.proofs.Accepted.{check-same}
 use Rattle.exchange.proofs.Stage.{Stage, in-leg, at-last, at-end, Stepped, stepped, step}
 use Rattle.exchange.proofs.Runs.{power-up-works}
 use Rattle.exchange.proofs.Walked.{closing-some, Walked, walked, ended, phase-small, restart}
@@ -33,12 +33,12 @@ OldRuns check g old = (f : Flash) → Shaped g f → ((j : ℕ) → j < firmware
 
 pub old-runs : (check : Check) (g : Geometry) (old : Flash) → ReadsFirmware check g → length (old .update) ≡ partitionSize g → Good (check g (old .update)) → OldRuns check g old
 old-runs check g old R l y f s h =
-    record { version = y .version; good = R (f .boot) (old .update) (s .boot) l (sectors-front (g .size) (firmware g) (f .boot) (old .update) h) ∙ y .good }
+    record { version = y .version; good = check-same check g R (f .boot) (old .update) (s .boot) l h ∙ y .good }
 
 -- a wrong geometry: refusal 1
-wrong : (check : Check) (g : Geometry) (f : Flash) → fits g f ≡ false → decide check g f ≡ refuse (numbered 1 0)
+pub outside-decided : (check : Check) (g : Geometry) (f : Flash) → fits g f ≡ false → decide check g f ≡ refuse (numbered 1 0)
 unfolding decide
-wrong check g f e = rw e refl
+outside-decided check g f e = rw e refl
 
 module _ (check : Check) (g : Geometry) (G : Limits g) (old : Flash) {x : Exchange} {b₀ : BootStatus} {u₀ : UpdateStatus} (B : Underway x b₀ u₀)
     (I : OldRuns check g old) where
@@ -61,11 +61,11 @@ module _ (check : Check) (g : Geometry) (G : Limits g) (old : Flash) {x : Exchan
   module _ (g′ : Geometry) (f : Flash) (r : ℕ) (s : Stage (Decides check g B) g old B f 0 (suc r)) (w : fits g′ f ≡ false) where
     refuses : (k : ℕ) → powerUp check g′ f k ≡ idle (refusal (numbered 1 0)) f
     unfolding powerUp
-    refuses k = ap (carryOut check g′ f k) (wrong check g′ f w)
+    refuses k = ap (carryOut check g′ f k) (outside-decided check g′ f w)
 
     no-next : (k : ℕ) → nextAfter check g′ f k ≡ Nothing
     unfolding nextAfter
-    no-next k = ap (nextIn g′ f k) (wrong check g′ f w)
+    no-next k = ap (nextIn g′ f k) (outside-decided check g′ f w)
 
     refused-untorn : (b : ℕ) → Played f (suc r) (untorn g′ b)
     unfolding left

@@ -21,7 +21,8 @@ use Rattle.exchange.specs.Decision.{Check}
 use Rattle.exchange.specs.Demand.{ReadsFirmware}
 use Rattle.exchange.specs.RuledOut.{Newer}
 use Rattle.flash.proofs.Checked.{size-split, sector-end}
-use Rattle.flash.proofs.Bytes.{length-part, sectors-front}
+use Rattle.exchange.proofs.Accepted.{check-same}
+use Rattle.flash.proofs.Bytes.{length-part}
 use Rattle.flash_flags.proofs.Laws.{flag-place}
 use Rattle.mending.specs.declared.Mark.{Mark}
 use Rattle.mending.specs.declared.OldImage.{OldImage}
@@ -95,11 +96,6 @@ shown-by-tables g k f S = record {
   boot = old-sector g f S BootImage k;
   update = old-sector g f S UpdateImage k;
 }
-
--- a check that reads the firmware sectors goes by the sectors
-pub check-same : (check : Check) (g : Geometry) → ReadsFirmware check g → (l l′ : List ℕ) → length l ≡ partitionSize g → length l′ ≡ partitionSize g
-    → ((i : ℕ) → i < firmware g → sectorOf g i l ≡ sectorOf g i l′) → check g l ≡ check g l′
-check-same check g R l l′ L L′ h = R l l′ L L′ (sectors-front (g .size) (firmware g) l l′ h)
 
 -- ---- the test of a mark
 

@@ -28,7 +28,7 @@ use Rattle.exchange.specs.RuledOut.{Newer}
 use Rattle.flash.proofs.Checked.{shaped-of, shaped-fits}
 use Rattle.flash_flags.proofs.Shown.{each-F}
 use Rattle.exchange.proofs.Orders.{decide-by-reads}
-use Rattle.exchange.proofs.Accepted.{Accepted, accepted, begun}
+use Rattle.exchange.proofs.Accepted.{check-same, Accepted, accepted, begun}
 use Rattle.exchange.proofs.Runs.{power-up-works}
 use Rattle.exchange.proofs.Stage.{erase-boot, write-testing, erase-update, closingLeft, closing, Stage, in-leg, at-last, at-end}
 use Rattle.exchange.proofs.Walked.{walked}
@@ -41,7 +41,7 @@ use Rattle.mending.specs.OldImages.{oldFlash, Fits, fitsMark}
 use Rattle.mending.specs.Mending.{firstFitting, found, setFlags, changed, given, Mend, mending}
 use Rattle.mending.specs.Mended.{ShownByTable, MendedOngoing, MendedSafe, FirstToFit, MayMend, ButFlags, OnlyFlags, ReadAs, GivesMark, SpoiledMends, StagesMend, MendsOnce}
 use Rattle.mending.proofs.Order.{flag-moved, moves-within, After, mark-after, Gives, some-given}
-use Rattle.mending.proofs.Images.{shown-by-tables, check-same, fits-true, but-shaped, but-get, but-fits}
+use Rattle.mending.proofs.Images.{shown-by-tables, fits-true, but-shaped, but-get, but-fits}
 use Rattle.mending.proofs.Written.{set-again, none-changed}
 use Rattle.mending.proofs.Found.{found-by, found-mark, mend-found, mend-by, with-flags, flash-left, may-shaped, writes, but-status, but-may, same-found, gives-first}
 

@@ -1,19 +1,16 @@
 -- The update's finish is where the fallback starts.
 use mathlib.Core.Path.{_≡_, refl, _∙_}
 use mathlib.Core.Bool.{true}
-use mathlib.Core.List.{List}
-use Prim.Native.Nat.{ℕ, _<_}
+use Prim.Native.Nat.{ℕ}
 use native.Mathlib.Omega.{arith}
-use lib.ListN.{length}
 use Rattle.numbers.specs.Answer.{Answer, gives, refused}
 use Rattle.exchange.specs.Base.{Geometry, BootStatus, BootNew, Testing, Success, UpdateStatus, UpdateNew, Updating}
-use Rattle.exchange.specs.Base.{firmware, partitionSize, sectorOf, Flash, Shaped, fits, bootStatusAt, updateStatusAt}
+use Rattle.exchange.specs.Base.{Flash, Shaped, fits, bootStatusAt, updateStatusAt}
 use Rattle.exchange.specs.Decision.{Check, Good}
 use Rattle.exchange.specs.Demand.{Exchange, update, fallback, Underway, from-new, from-success, Finished, Starts, Ongoing, ReadsFirmware, AtFinish}
 use Rattle.exchange.specs.RuledOut.{Newer}
-use Rattle.flash.proofs.Bytes.{sectors-front}
 use Rattle.flash.proofs.Checked.{shaped-of}
-use Rattle.exchange.proofs.Accepted.{accepted}
+use Rattle.exchange.proofs.Accepted.{check-same, accepted}
 use Rattle.exchange.proofs.Whole.{starts-ongoing}
 use Rattle.exchange.proofs.RuledOut.{ruled-out}
 use Rattle.there_and_back.specs.Journey.{Halfway, sidesChanged}
@@ -46,11 +43,6 @@ not-yet check g f s = by (accepted check update g f s .both .statuses) (accepted
     by from-new e h = let z : _≡_ {A = ℕ} 0 1 = cc in omega arith
     by from-success e h = let z : _≡_ {A = ℕ} 0 1 = cc in omega arith
 
--- partitions that agree in every firmware sector check alike
-pub same-check : (check : Check) (g : Geometry) → ReadsFirmware check g → (l l′ : List ℕ) → length l ≡ partitionSize g → length l′ ≡ partitionSize g
-    → ((i : ℕ) → i < firmware g → sectorOf g i l ≡ sectorOf g i l′) → check g l ≡ check g l′
-same-check check g R l l′ e e′ h = R l l′ e e′ (sectors-front (g .size) (firmware g) l l′ h)
-
 module _ (check : Check) (g : Geometry) (f : Flash) (R : ReadsFirmware check g) (s : Starts check update g f) where
   pub shaped : Shaped g f
   shaped = shaped-of g f (accepted check update g f s .fit)
@@ -65,7 +57,7 @@ module _ (check : Check) (g : Geometry) (f : Flash) (R : ReadsFirmware check g) 
 
   module _ (y : Flash) (fit : fits g y ≡ true) (A : AtFinish update g f y) where
     same : check g (y .update) ≡ check g (f .boot)
-    same = same-check check g R (y .update) (f .boot) (shaped-of g y fit .update) (shaped .boot) (λ i hi. A .exchanged i hi .updateHolds)
+    same = check-same check g R (y .update) (f .boot) (shaped-of g y fit .update) (shaped .boot) (λ i hi. A .exchanged i hi .updateHolds)
 
     pub halfway : Halfway check g f y
     halfway =

@@ -13,6 +13,8 @@ use Rattle.exchange.specs.PowerUp.{Outcome, refusal, runs, PowerUp, ifBootGood,
 use Rattle.exchange.specs.LostPower.{Torn, tearNext}
 use Rattle.exchange.specs.Demand.{untorn, lost, Event, leftUntorn, leftLost, left, EndsAsAllowed}
 use Rattle.flash.proofs.Checked.{shaped-of, same-geometry}
+use Rattle.exchange.proofs.Played.{outside-decided}
+use Rattle.exchange.proofs.RuledOut.{ruled-out}
 use Rattle.there_and_back.specs.Journey.{DoesNothing}
 
 module _ (check : Check) (y : Flash) where
@@ -22,8 +24,8 @@ module _ (check : Check) (y : Flash) where
     next : (k : ℕ) → nextAfter check g y k ≡ Nothing
 
   outside : (g : Geometry) → fits g y ≡ false → Idles g (refusal (numbered 1 0))
-  unfolding powerUp nextAfter decide
-  outside g e = record { up = λ k. rw e refl; next = λ k. rw e refl }
+  unfolding nextAfter
+  outside g e = record { up = λ k. ruled-out .outsideFirst check g y k e; next = λ k. ap (nextIn g y k) (outside-decided check g y e) }
 
   at-plain : (g : Geometry) → decide check g y ≡ plain → Good (check g (y .boot)) → Idles g runs
   unfolding powerUp nextAfter

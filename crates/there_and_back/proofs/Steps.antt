@@ -13,11 +13,12 @@ use Rattle.exchange.specs.PowerUp.{PowerUp, powerUp}
 use Rattle.exchange.specs.Demand.{Exchange, update, fallback, StatusesAt, inLegs, from-testing, Finished, Starts, Ongoing, ReadsFirmware, untorn, lost, Event, Kept, kept, lostPower, left, flashLeft, EndsAsAllowed, flashAfter, IsRefusal, AtFinish, most, Safe}
 use Rattle.flash.proofs.Checked.{shaped-of, same-geometry}
 use Rattle.exchange.proofs.Orders.{decide-by-reads}
+use Rattle.exchange.proofs.Accepted.{check-same}
 use Rattle.exchange.proofs.Whole.{demand-3-ongoing, starts-ongoing}
 use Rattle.exchange.proofs.Reached.{finish-from}
 use Rattle.exchange.proofs.RuledOut.{ruled-out}
 use Rattle.there_and_back.specs.Journey.{GivenBack, sidesChanged, AtRest, OnTheWay, inUpdate, inFallback, atRest, ComesToFinish, EachThrough, AllowedThrough}
-use Rattle.there_and_back.proofs.Halfway.{finished?, on-test, not-yet, same-check, shaped, as-good, halfway, falls}
+use Rattle.there_and_back.proofs.Halfway.{finished?, on-test, not-yet, shaped, as-good, halfway, falls}
 use Rattle.there_and_back.proofs.Rest.{rests}
 
 -- where power-up is Plain the lengths are right
@@ -86,10 +87,10 @@ module _ (check : Check) (g : Geometry) (f : Flash) (R : ReadsFirmware check g) 
 
   module _ (y : Flash) (fit : fits g y ≡ true) (B : GivenBack g f y) where
     boot-checks : check g (y .boot) ≡ check g (f .boot)
-    boot-checks = same-check check g R (y .boot) (f .boot) (shaped-of g y fit .boot) (shaped check g f R s .boot) (λ i hi. B .sectors i (omega arith) .boot)
+    boot-checks = check-same check g R (y .boot) (f .boot) (shaped-of g y fit .boot) (shaped check g f R s .boot) (λ i hi. B .sectors i (omega arith) .boot)
 
     update-checks : check g (y .update) ≡ check g (f .update)
-    update-checks = same-check check g R (y .update) (f .update) (shaped-of g y fit .update) (shaped check g f R s .update) (λ i hi. B .sectors i (omega arith) .update)
+    update-checks = check-same check g R (y .update) (f .update) (shaped-of g y fit .update) (shaped check g f R s .update) (λ i hi. B .sectors i (omega arith) .update)
 
     resting : AtRest check g f y
     resting = record {
