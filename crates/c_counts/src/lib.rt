@@ -1,4 +1,6 @@
 // The numbers of what the counted calls answer.
+#![tactic(auto)]
+
 ghost use Rattle.std.specs.Prelude.{◌≡◌};
 ghost use Rattle.numbers.specs.GivenBack.{refusal_of, count_of};
 ghost use Rattle.c_power_up.specs.Outcomes.{ended_of};

@@ -1,4 +1,6 @@
 // The rows by which a C caller gets a header's values and a tag.
+#![tactic(auto)]
+
 ghost use Rattle.std.specs.Prelude.{◌≡◌, ◌++◌, length};
 ghost use Rattle.header_tags.specs.Walk.{item_of};
 ghost use Rattle.numbers.specs.GivenBack.{refusal_of};

@@ -1,4 +1,6 @@
 // The numbers and the row by which a C caller gets what mending answers.
+#![tactic(auto)]
+
 ghost use Rattle.std.specs.Prelude.{◌≡◌, ◌-◌};
 ghost use Rattle.numbers.specs.GivenBack.{refusal_of};
 ghost use Rattle.flash_flags.specs.SectorFlags.{flag_value};

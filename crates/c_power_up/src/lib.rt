@@ -1,4 +1,6 @@
 // The numbers and rows by which a C caller gets what power-up, arm and confirm answer.
+#![tactic(auto)]
+
 ghost use Rattle.std.specs.Prelude.{◌≡◌};
 ghost use Rattle.numbers.specs.GivenBack.{refusal_of, count_of};
 ghost use Rattle.exchange_commands.specs.Numbers.{command_of};
@@ -10,7 +12,7 @@ use numbers::RefusedInside;
 use power_up::Outcome;
 
 // How a power-up ended: its outcome, and of a refusal the number, and the own number and place of a bad image within it.
-#[derive(Drop)]
+#[derive(Clone, Copy)]
 pub struct Ended {
     pub outcome: u64,
     pub number: u32,

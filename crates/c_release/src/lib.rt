@@ -1,4 +1,6 @@
 // The rows by which a C caller gets what a release sheet states.
+#![tactic(auto)]
+
 ghost use Rattle.std.specs.Prelude.{◌≡◌, ◌++◌, length};
 ghost use Rattle.c_release.specs.Rows.{sheet_numbers, sheet_bytes};
 

@@ -1,5 +1,7 @@
 // Prints what the image check says of the files that its arguments name, each laid at the start of an erased partition, and then of
 // copies of the first one with a byte changed.
+#![tactic(auto)]
+
 use libc::STDOUT_FILENO;
 
 const SECTORS: usize = 3;

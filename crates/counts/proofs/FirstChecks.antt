@@ -30,14 +30,14 @@ module _ (n s : ℕ) (f : Flash) (row : List ℕ) (total : ℕ) where
     back : (m p : ℕ) → check_counted (geometry n s) f row total ≡ refused m p → hands_back (refuse m p) row total ≡ call
     back m p e = rw e refl
 
-    pub asked-outside : refused 1 0 ≡ flash_of n s f → hands_back (refuse 1 0) row total ≡ call
-    asked-outside e = back 1 0 (unfit (geometry n s) f row total (flash_unfit n s f e))
+    pub asked_outside : refused 1 0 ≡ flash_of n s f → hands_back (refuse 1 0) row total ≡ call
+    asked_outside e = back 1 0 (unfit (geometry n s) f row total (flash_unfit n s f e))
 
     module _ (g : Geometry) (e : gives g ≡ flash_of n s f) (a : Answer (Unit {0})) (q : a ≡ check_row g row total) where
-      pub asked-refused : (m p : ℕ) → a ≡ refused m p → hands_back (refuse m p) row total ≡ call
-      asked-refused m p r = back m p (checked g e a q ∙ r)
+      pub asked_refused : (m p : ℕ) → a ≡ refused m p → hands_back (refuse m p) row total ≡ call
+      asked_refused m p r = back m p (checked g e a q ∙ r)
 
       -- the call's own work is done, and the row is raised by it
-      pub asked-inside : a ≡ gives tt → (own : A) (row' : List ℕ) (total' : ℕ) → own ≡ did → row' ≡ raised g os row → total' ≡ sum row'
+      pub asked_inside : a ≡ gives tt → (own : A) (row' : List ℕ) (total' : ℕ) → own ≡ did → row' ≡ raised g os row → total' ≡ sum row'
           → record { own = own; row = row'; total = total' } ≡ call
-      asked-inside t own row' total' o r w = rw (checked g e a q ∙ t, w, r, o, flash_asked n s f g e) refl
+      asked_inside t own row' total' o r w = rw (checked g e a q ∙ t, w, r, o, flash_asked n s f g e) refl

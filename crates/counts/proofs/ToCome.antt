@@ -26,7 +26,7 @@ use Rattle.flash_flags.specs.declared.Leg.TheVariants.{UpdateToSwap, BootToUpdat
 use Rattle.flash_flags.specs.declared.Flags.{Flags}
 use Rattle.flash_flags.specs.declared.Flags.TheVariants.{Malformed, AllF, At, All0}
 use Rattle.flash_flags.specs.SectorFlags.{moved, leg_moves, set_flag, flags_at}
-use Rattle.flash_flags.proofs.Laws.{flag-sector, length-flag, length-status, status-flag, boot-erased, update-erased, boot_written}
+use Rattle.flash_flags.proofs.Laws.{flag_sector, length_flag, length_status, status_flag, boot_erased, update_erased, boot_written}
 use Rattle.flash_flags.proofs.Shown.{each_at}
 use Rattle.flash_flags.proofs.Moves.{AfterMoves, at_leg, at_leg_lem, shown_leg, shown_every, moves_leg, moves_on_lem}
 use Rattle.exchange.specs.declared.Area.{Area}
@@ -40,7 +40,7 @@ use Rattle.exchange.specs.Operations.{get, put, source, target, next_flag, leg_o
 use Rattle.exchange.specs.Order.{closing, exchange_next, ordered_by, next_operation, operations}
 use Rattle.exchange.proofs.Orders.{next_by_reads}
 use Rattle.exchange.proofs.Runs.{operations_none, operations_some}
-use Rattle.exchange.proofs.Sound.{sized, next_moved, put_shaped, put-boot-status, put-update-status}
+use Rattle.exchange.proofs.Sound.{sized, next_moved, put_shaped, put_boot_status, put_update_status}
 use Rattle.exchange.proofs.Stage.{at_leg_next}
 use Rattle.counts.specs.Row.{row_place, slot}
 use Rattle.counts.specs.Claims.{raises_at, erases_at}
@@ -183,7 +183,7 @@ module _ (g : Geometry) (G : Limits g) (k : ℕ) where
         → e ≡ legsFrom g k i leg p + sectorsFrom g k (suc i) (firmware g - suc i) + closing_of g k B → Trail job f p e
     at_last : (b : BootStatus) (u : UpdateStatus) (B : Busy job b u) → Shaped g f → flags_at g f.update ≡ All0
         → boot_status_at g f.boot ≡ gives b → update_status_at g f.update ≡ gives u → e ≡ closing_of g k B → Trail job f p e
-    turning-down : (b : BootStatus) → job ≡ TurnDown → Shaped g f → boot_status_at g f.boot ≡ gives b → update_status_at g f.update ≡ gives Updating
+    turning_down : (b : BootStatus) → job ≡ TurnDown → Shaped g f → boot_status_at g f.boot ≡ gives b → update_status_at g f.update ≡ gives Updating
         → e ≡ at g k UpdateArea (firmware g) → Trail job f p e
     at_end : next_operation job g p f ≡ Nothing → Trail job f p e
 
@@ -201,7 +201,7 @@ module _ (g : Geometry) (G : Limits g) (k : ℕ) where
   moves_kept : (a : Area) (i : ℕ) (x : List ℕ) (f : Flash) (n : ℕ) → Shaped g f → i < firmware g → length x ≡ g.size → AfterMoves g f.update n
       → AfterMoves g (put g a i x f).update n
   moves_kept Boot i x f n s hi X h = h
-  moves_kept UpdateArea i x f n s hi X h = λ j hj. flag-sector g G f.update x s.update X i hi j hj ∙ h j hj
+  moves_kept UpdateArea i x f n s hi X h = λ j hj. flag_sector g G f.update x s.update X i hi j hj ∙ h j hj
   moves_kept Swap i x f n s hi X h = h
 
   module _ {job : Job} {b : BootStatus} {u : UpdateStatus} (B : Busy job b u) (i : ℕ) (leg : Leg) (hi : i < firmware g) (f : Flash) (s : Shaped g f)
@@ -214,7 +214,7 @@ module _ (g : Geometry) (G : Limits g) (k : ℕ) where
         → Trail job (put g (target leg) i y f) p e
     written p e y Y hp q =
         in_leg_lem b u B i leg hi hp (put_shaped g G (target leg) i y f (omega arith) Y s) (moves_kept (target leg) i y f (3 * i + leg_moves leg) s hi Y h)
-        (put-boot-status g G (target leg) i y f Y s hi ∙ e₁) (put-update-status g G (target leg) i y f Y s hi ∙ e₂) q
+        (put_boot_status g G (target leg) i y f Y s hi ∙ e₁) (put_update_status g G (target leg) i y f Y s hi ∙ e₂) q
 
   -- a leg is over
   turned : {job : Job} {b : BootStatus} {u : UpdateStatus} (B : Busy job b u) (i : ℕ) (leg : Leg) → i < firmware g → (f : Flash) → Shaped g f
@@ -253,21 +253,21 @@ module _ (g : Geometry) (G : Limits g) (k : ℕ) where
 
   -- BOOT's status is written
   shaped_written : (f : Flash) → Shaped g f → (v : BootStatus) → Shaped g (perform g (WriteBootStatus v) f)
-  shaped_written f s v = record { limits = G; boot = length-status g G f.boot s.boot (boot_byte v) ∙ s.boot; update = s.update; swap = s.swap }
+  shaped_written f s v = record { limits = G; boot = length_status g G f.boot s.boot (boot_byte v) ∙ s.boot; update = s.update; swap = s.swap }
 
   shaped_flag : (f : Flash) → Shaped g f → (i : ℕ) → i < firmware g → (leg : Leg) → Shaped g (perform g (WriteFlag (sector_number i) (next_flag leg)) f)
-  shaped_flag f s i hi leg = record { limits = G; boot = s.boot; update = length-flag g G f.update s.update i (next_flag leg) hi ∙ s.update; swap = s.swap }
+  shaped_flag f s i hi leg = record { limits = G; boot = s.boot; update = length_flag g G f.update s.update i (next_flag leg) hi ∙ s.update; swap = s.swap }
 
   -- the UPDATE trailer is erased, and nothing is next for a job that is done once UPDATE is NEW
   erased_update : (f : Flash) → Shaped g f → update_status_at g (perform g EraseUpdateTrailer f).update ≡ gives UpdateNew
-  erased_update f s = update-erased g G f.update s.update
+  erased_update f s = update_erased g G f.update s.update
 
   last_step : {job : Job} {b : BootStatus} {u : UpdateStatus} (B : Busy job b u) (f : Flash) (p e : ℕ) → Shaped g f → flags_at g f.update ≡ All0
       → boot_status_at g f.boot ≡ gives b → update_status_at g f.update ≡ gives u → e ≡ closing_of g k B → Steps job f p e
   last_step (updates Success) f p e s v e₁ e₂ q =
       steps EraseBootTrailer (at g k UpdateArea (firmware g)) (next_busy (updates Success) p f All0 e₁ e₂ v) (omega arith)
       (at_last BootNew Updating (updates BootNew) (put_shaped g G Boot (firmware g) (erased g.size) f (omega arith) (length_erased g.size) s) v
-      (boot-erased g G f.boot s.boot) e₂ refl)
+      (boot_erased g G f.boot s.boot) e₂ refl)
   last_step (updates BootNew) f p e s v e₁ e₂ q =
       steps (WriteBootStatus Testing) e (next_busy (updates BootNew) p f All0 e₁ e₂ v) (omega arith)
       (at_last Testing Updating (updates Testing) (shaped_written f s Testing) v (boot_written g G f.boot s.boot Testing) e₂ q)
@@ -292,10 +292,10 @@ module _ (g : Geometry) (G : Limits g) (k : ℕ) where
       steps (WriteFlag (sector_number i) (next_flag leg)) e (next_leg B i leg hi f s h e₁ e₂ 2) (omega arith)
       (turned B i leg hi (perform g (WriteFlag (sector_number i) (next_flag leg)) f) (shaped_flag f s i hi leg)
       (subst (λ (v : Flag). AfterMoves g (set_flag g i v f.update) (suc (3 * i + leg_moves leg))) w (moves_on_lem g G f.update s.update i leg hi h))
-      e₁ (ap update_status_of (status-flag g G f.update s.update i (next_flag leg) hi) ∙ e₂) e q)
+      e₁ (ap update_status_of (status_flag g G f.update s.update i (next_flag leg) hi) ∙ e₂) e q)
   one_step job f (suc (suc (suc p))) e (in_leg_lem b u B i leg hi hp s h e₁ e₂ q) = absurd (omega arith)
   one_step job f p e (at_last b u B s v e₁ e₂ q) = last_step B f p e s v e₁ e₂ q
-  one_step job f p e (turning-down b t s e₁ e₂ q) =
+  one_step job f p e (turning_down b t s e₁ e₂ q) =
       steps EraseUpdateTrailer 0 (ap (λ (j : Job). next_operation j g p f) t ∙ next_by_reads TurnDown g p f b Updating (flags_at g f.update) e₁ e₂ refl) (omega arith)
       (at_end (ap (λ (j : Job). next_operation j g 0 (perform g EraseUpdateTrailer f)) t
       ∙ next_by_reads TurnDown g 0 (perform g EraseUpdateTrailer f) b UpdateNew (flags_at g (perform g EraseUpdateTrailer f).update) e₁ (erased_update f s) refl))
@@ -328,9 +328,9 @@ module _ (g : Geometry) (G : Limits g) (k : ℕ) where
   leg_part i SwapToBoot = omega arith
 
   module _ (f : Flash) (s : Shaped g f) where
-    at-a-leg : {job : Job} {b : BootStatus} {u : UpdateStatus} (B : Busy job b u) → boot_status_at g f.boot ≡ gives b → update_status_at g f.update ≡ gives u
+    at_a_leg : {job : Job} {b : BootStatus} {u : UpdateStatus} (B : Busy job b u) → boot_status_at g f.boot ≡ gives b → update_status_at g f.update ≡ gives u
         → (i : ℕ) (leg : Leg) → i < firmware g → flags_at g f.update ≡ at_leg i leg → Begins job f
-    at-a-leg {job} {b} {u} B e₁ e₂ i leg hi v =
+    at_a_leg {job} {b} {u} B e₁ e₂ i leg hi v =
         let r : firmware g - i ≡ suc (firmware g - suc i) = omega arith in
         let n : i + suc (firmware g - suc i) ≡ firmware g = omega arith in
         record {
@@ -341,8 +341,8 @@ module _ (g : Geometry) (G : Limits g) (k : ℕ) where
 
     busy : {job : Job} {b : BootStatus} {u : UpdateStatus} (B : Busy job b u) → boot_status_at g f.boot ≡ gives b → update_status_at g f.update ≡ gives u
         → (v : Flags) → flags_at g f.update ≡ v → Begins job f
-    busy B e₁ e₂ AllF v = at-a-leg B e₁ e₂ 0 UpdateToSwap (some_firmware g G) v
-    busy B e₁ e₂ (At i leg) v = let w = each_at g f.update i leg v in at-a-leg B e₁ e₂ i.0 leg w.inside (v ∙ at_leg_lem i.0 leg w.not_all_f)
+    busy B e₁ e₂ AllF v = at_a_leg B e₁ e₂ 0 UpdateToSwap (some_firmware g G) v
+    busy B e₁ e₂ (At i leg) v = let w = each_at g f.update i leg v in at_a_leg B e₁ e₂ i.0 leg w.inside (v ∙ at_leg_lem i.0 leg w.not_all_f)
     busy {job} {b} {u} B e₁ e₂ All0 v =
         record { most = closing_of g k B; bounded = omega (arith, few g G k B (firmware g) 0 (omega arith)); trail = at_last b u B s v e₁ e₂ refl }
     busy {job} B e₁ e₂ Malformed v = nothing_next job f (next_busy B 0 f Malformed e₁ e₂ v)
@@ -354,7 +354,7 @@ module _ (g : Geometry) (G : Limits g) (k : ℕ) where
     by_reads Fallback BootNew u e₁ e₂ = nothing_next Fallback f (next_by_reads Fallback g 0 f BootNew u (flags_at g f.update) e₁ e₂ refl)
     by_reads Fallback Success u e₁ e₂ = nothing_next Fallback f (next_by_reads Fallback g 0 f Success u (flags_at g f.update) e₁ e₂ refl)
     by_reads TurnDown b Updating e₁ e₂ =
-        record { most = at g k UpdateArea (firmware g); bounded = omega (arith, place_once g G k UpdateArea (firmware g), some_firmware g G); trail = turning-down b refl s e₁ e₂ refl }
+        record { most = at g k UpdateArea (firmware g); bounded = omega (arith, place_once g G k UpdateArea (firmware g), some_firmware g G); trail = turning_down b refl s e₁ e₂ refl }
     by_reads TurnDown b UpdateNew e₁ e₂ = nothing_next TurnDown f (next_by_reads TurnDown g 0 f b UpdateNew (flags_at g f.update) e₁ e₂ refl)
 
     unread : (job : Job) (B : Answer BootStatus) (U : Answer UpdateStatus) → boot_status_at g f.boot ≡ B → update_status_at g f.update ≡ U

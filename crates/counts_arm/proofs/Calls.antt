@@ -19,7 +19,7 @@ use Rattle.exchange_commands.proofs.Calls.{is_arm}
 use Rattle.counts.specs.Row.{row_length, slot, raised, sum, check_row}
 use Rattle.counts.specs.Calls.{arm_done, counted_arm}
 use Rattle.counts.specs.Claims.{RoomForM, hands_back}
-use Rattle.counts.proofs.FirstChecks.{asked-outside, asked-refused, asked-inside}
+use Rattle.counts.proofs.FirstChecks.{asked_outside, asked_refused, asked_inside}
 use Rattle.counts.proofs.Places.{slot_below}
 use Rattle.counts.proofs.Rows.{SlotBelow}
 use Rattle.counts_row.specs.Inner.{RoomFor}
@@ -30,20 +30,20 @@ module _ (n s : ℕ) (f : Flash) (row : List ℕ) (total : ℕ) where
 
   pub counted_outside : refused 1 0 ≡ flash_of n s f → hands_back (record { answer = refused 1 0; flash = f }) row total ≡ counted_arm (geometry n s) f row total
   unfolding counted_arm
-  counted_outside e = asked-outside n s f row total refusing (arm_command (geometry n s) f) (arm_done (arm_command (geometry n s) f).answer) e
+  counted_outside e = asked_outside n s f row total refusing (arm_command (geometry n s) f) (arm_done (arm_command (geometry n s) f).answer) e
 
   module _ (g : Geometry) (e : gives g ≡ flash_of n s f) (a : Answer (Unit {0})) (q : a ≡ check_row g row total) where
-    pub counted-refused : (m p : ℕ) → a ≡ refused m p → hands_back (record { answer = refused m p; flash = f }) row total ≡ counted_arm (geometry n s) f row total
+    pub counted_refused : (m p : ℕ) → a ≡ refused m p → hands_back (record { answer = refused m p; flash = f }) row total ≡ counted_arm (geometry n s) f row total
     unfolding counted_arm
-    counted-refused m p r = asked-refused n s f row total refusing (arm_command (geometry n s) f) (arm_done (arm_command (geometry n s) f).answer) g e a q m p r
+    counted_refused m p r = asked_refused n s f row total refusing (arm_command (geometry n s) f) (arm_done (arm_command (geometry n s) f).answer) g e a q m p r
 
-    pub counted-inside : a ≡ gives tt → (own : Command) (row' : List ℕ) (total' : ℕ) → own ≡ command g arm_operations (permit_at Arm g f.boot f.update) f
+    pub counted_inside : a ≡ gives tt → (own : Command) (row' : List ℕ) (total' : ℕ) → own ≡ command g arm_operations (permit_at Arm g f.boot f.update) f
         → row' ≡ raised g (arm_done own.answer) row → total' ≡ sum row'
         → record { own = own; row = row'; total = total' } ≡ counted_arm (geometry n s) f row total
     unfolding counted_arm
-    counted-inside t own row' total' o r w =
+    counted_inside t own row' total' o r w =
         let arms : own ≡ arm_command (geometry n s) f = o ∙ is_arm n s f (gives g) e in
-        asked-inside n s f row total refusing (arm_command (geometry n s) f) (arm_done (arm_command (geometry n s) f).answer) g e a q t own row' total' arms
+        asked_inside n s f row total refusing (arm_command (geometry n s) f) (arm_done (arm_command (geometry n s) f).answer) g e a q t own row' total' arms
         (r ∙ ap (λ (c : Command). raised g (arm_done c.answer) row) arms) w
 
 -- a row with room for m erases has room for one

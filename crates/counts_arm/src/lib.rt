@@ -1,4 +1,6 @@
 // Arm with erase counts, on three lent buffers and a lent row.
+#![tactic(auto)]
+
 ghost use Rattle.std.specs.Prelude.{◌≡◌, length};
 ghost use Rattle.flash.specs.Sizes.{geometry};
 ghost use Rattle.flash.specs.Buffers.{lent, Shaped};
@@ -20,14 +22,14 @@ use flash_status::UpdateStatus;
 use numbers::{CommandRefusal, RowRefusal};
 
 // Arm's own answer; or the row or the total is refused.
-#[derive(Drop)]
+#[derive(Clone, Copy)]
 pub enum CountedCommand {
     Arm(CommandAnswer),
     Counts(RowRefusal),
 }
 
 // The total is the row's sum, or as it came where the call is refused with 1 or 19.
-#[derive(Drop)]
+#[derive(Clone, Copy)]
 pub struct CountedArmAnswer {
     pub answer: CountedCommand,
     pub total: u64,

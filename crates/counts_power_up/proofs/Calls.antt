@@ -18,7 +18,7 @@ use Rattle.counts.specs.Calls.{check_counted, counted, counted_power_up}
 use Rattle.counts.specs.Claims.{RoomForM, Within32, hands_back}
 use Rattle.counts.proofs.ToCome.{no_more_than_m}
 use Rattle.counts.proofs.Claimed.{stays}
-use Rattle.counts.proofs.FirstChecks.{asked-outside, asked-refused, asked-inside}
+use Rattle.counts.proofs.FirstChecks.{asked_outside, asked_refused, asked_inside}
 
 module _ (n s : ℕ) (f : Flash) (check : Check) (budget : ℕ) (row : List ℕ) (total : ℕ) where
   abbrev refusing : ℕ → ℕ → PowerUp
@@ -26,24 +26,24 @@ module _ (n s : ℕ) (f : Flash) (check : Check) (budget : ℕ) (row : List ℕ)
 
   pub counted_outside : refused 1 0 ≡ flash_of n s f → hands_back (idle (refusal (numbered 1 0)) f) row total ≡ counted_power_up check (geometry n s) f budget row total
   unfolding counted_power_up
-  counted_outside e = asked-outside n s f row total refusing (power_up check (geometry n s) f budget) (operations_of check (geometry n s) f budget) e
+  counted_outside e = asked_outside n s f row total refusing (power_up check (geometry n s) f budget) (operations_of check (geometry n s) f budget) e
 
   module _ (g : Geometry) (e : gives g ≡ flash_of n s f) (a : Answer (Unit {0})) (q : a ≡ check_row g row total) where
-    pub counted-refused : (m p : ℕ) → a ≡ refused m p → hands_back (idle (refusal (numbered m p)) f) row total ≡ counted_power_up check (geometry n s) f budget row total
+    pub counted_refused : (m p : ℕ) → a ≡ refused m p → hands_back (idle (refusal (numbered m p)) f) row total ≡ counted_power_up check (geometry n s) f budget row total
     unfolding counted_power_up
-    counted-refused m p r = asked-refused n s f row total refusing (power_up check (geometry n s) f budget) (operations_of check (geometry n s) f budget) g e a q m p r
+    counted_refused m p r = asked_refused n s f row total refusing (power_up check (geometry n s) f budget) (operations_of check (geometry n s) f budget) g e a q m p r
 
     -- the operations of the plan
     planned : (plan : Plan) → plan ≡ decide_within check g f.boot f.update → operations_in g f budget plan ≡ operations_of check (geometry n s) f budget
     unfolding operations_of decide
     planned plan d = rw (d, flash_asked n s f g e, flash_fits n s f g e) refl
 
-    pub counted-inside : a ≡ gives tt → (plan : Plan) → plan ≡ decide_within check g f.boot f.update → (own : PowerUp) (row' : List ℕ) (total' : ℕ)
+    pub counted_inside : a ≡ gives tt → (plan : Plan) → plan ≡ decide_within check g f.boot f.update → (own : PowerUp) (row' : List ℕ) (total' : ℕ)
         → own ≡ carry_out check g f budget plan → row' ≡ raised g (operations_in g f budget plan) row → total' ≡ sum row'
         → record { own = own; row = row'; total = total' } ≡ counted_power_up check (geometry n s) f budget row total
     unfolding counted_power_up
-    counted-inside t plan d own row' total' o r w =
-        asked-inside n s f row total refusing (power_up check (geometry n s) f budget) (operations_of check (geometry n s) f budget) g e a q t own row' total'
+    counted_inside t plan d own row' total' o r w =
+        asked_inside n s f row total refusing (power_up check (geometry n s) f budget) (operations_of check (geometry n s) f budget) g e a q t own row' total'
         (o ∙ power_up_inside n s f g e check budget plan d) (r ∙ ap (λ (os : List Operation). raised g os row) (planned plan d)) w
 
 -- a job keeps the row within 32 bits

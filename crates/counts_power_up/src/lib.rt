@@ -1,4 +1,6 @@
 // Power-up with erase counts, on three lent buffers and a lent row.
+#![tactic(auto)]
+
 ghost use Rattle.std.specs.Prelude.{◌≡◌, length};
 ghost use Rattle.flash.specs.Buffers.{lent, Shaped};
 ghost use Rattle.flash_flags.specs.Front.{WellFormed};
@@ -22,14 +24,14 @@ use power_up::{Outcome, PowerUpAnswer};
 use power_up_decision::Plan;
 
 // Power-up's own outcome; or the row or the total is refused.
-#[derive(Drop)]
+#[derive(Clone, Copy)]
 pub enum CountedOutcome {
     PowerUp(Outcome),
     Counts(RowRefusal),
 }
 
 // Outcome, reason and count are power-up's; the total is the row's sum, or as it came where the call is refused with 1 or 19.
-#[derive(Drop)]
+#[derive(Clone, Copy)]
 pub struct CountedAnswer {
     pub outcome: CountedOutcome,
     pub reason: TurnDownReason,

@@ -26,13 +26,13 @@ module _ (row : List ℕ) where
 
   -- one more count is not above the limit
   module _ (limit : ℕ) where
-    pub above-here : (i : ℕ) → i < length row → limit < get_or row i 0 → some_above limit (drop i row) ≡ true
-    above-here i h l = ap (some_above limit) (drop_on row i (suc i) refl h) ∙ rw (lt-ltb limit (get_or row i 0) l) refl
+    pub above_here : (i : ℕ) → i < length row → limit < get_or row i 0 → some_above limit (drop i row) ≡ true
+    above_here i h l = ap (some_above limit) (drop_on row i (suc i) refl h) ∙ rw (lt-ltb limit (get_or row i 0) l) refl
 
     pub above_on : (i j : ℕ) → j ≡ suc i → i < length row → get_or row i 0 ≤ limit → some_above limit (drop i row) ≡ some_above limit row
         → some_above limit (drop j row) ≡ some_above limit row
     above_on i j e h l s =
         sym (ap (some_above limit) (drop_on row i j e h) ∙ rw (le-ltb limit (get_or row i 0) l) refl) ∙ s
 
-    pub above-over : (i : ℕ) → length row ≤ i → some_above limit (drop i row) ≡ some_above limit row → some_above limit row ≡ false
-    above-over i h s = sym s ∙ ap (some_above limit) (drop_of_length-le row {i = i} h)
+    pub above_over : (i : ℕ) → length row ≤ i → some_above limit (drop i row) ≡ some_above limit row → some_above limit row ≡ false
+    above_over i h s = sym s ∙ ap (some_above limit) (drop_of_length-le row {i = i} h)

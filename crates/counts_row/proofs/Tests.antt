@@ -33,8 +33,8 @@ module _ (g : Geometry) (row : List ℕ) (total : ℕ) where
       pub too_high : some_above limit row ≡ true → refused 20 0 ≡ check_row g row total
       too_high h = rw (eq-eqb (length row) (row_length g) l, eq-eqb (sum row) total s, ap (λ (n : ℕ). some_above n row) (sym e) ∙ h) refl
 
-      pub none-too-high : some_above limit row ≡ false → gives (tt {0}) ≡ check_row g row total
-      none-too-high h = rw (eq-eqb (length row) (row_length g) l, eq-eqb (sum row) total s, ap (λ (n : ℕ). some_above n row) (sym e) ∙ h) refl
+      pub none_too_high : some_above limit row ≡ false → gives (tt {0}) ≡ check_row g row total
+      none_too_high h = rw (eq-eqb (length row) (row_length g) l, eq-eqb (sum row) total s, ap (λ (n : ℕ). some_above n row) (sym e) ∙ h) refl
 
 -- ---- the place of an operation
 

@@ -1,4 +1,6 @@
 // The row of erase counts: the checks before the work, and one place raised for each erase.
+#![tactic(auto)]
+
 ghost use Rattle.std.specs.Prelude.{◌≡◌, ◌≤◌, ◌<◌, length};
 ghost use Rattle.flash.specs.Sizes.{Limits};
 ghost use Rattle.exchange_steps.specs.Inner.{SectorWithin};
@@ -12,7 +14,7 @@ use numbers::RowRefusal;
 // ---- the checks
 
 // What the checks of a row and its total find.
-#[derive(Drop)]
+#[derive(Clone, Copy)]
 pub enum RowAnswer {
     Counts,
     OtherLength,
@@ -68,7 +70,7 @@ pub fn check_row(g: Geometry, row: &[u32], total: u64) -> RowAnswer
 // ---- one place for each erase
 
 // The place that an operation raises, if it is an erase.
-#[derive(Drop)]
+#[derive(Clone, Copy)]
 enum Slot {
     Place(usize),
     None,

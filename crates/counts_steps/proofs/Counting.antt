@@ -21,7 +21,7 @@ use Rattle.exchange_front.specs.Carried.{begun, progress_scanned, next_at, Curre
 use Rattle.exchange_front.proofs.Follows.{same_next}
 use Rattle.exchange_steps.specs.declared.StepAnswer.{StepAnswer}
 use Rattle.exchange_steps.specs.Inner.{stepped}
-use Rattle.exchange_steps.proofs.Runs.{next-is, flash_is}
+use Rattle.exchange_steps.proofs.Runs.{next_is, flash_is}
 use Rattle.counts.specs.Row.{slot, raise, raised}
 use Rattle.counts.specs.Claims.{raises_at, erases_at, Within32}
 use Rattle.counts.proofs.Rows.{raises_here, raised_place}
@@ -56,13 +56,13 @@ module _ (job : Job) (g : Geometry) where
         ap₂ (λ (z : Progress) (w : List ℕ). row_to_come job g z f' w) d y
         ∙ ap (λ (z : Flash). raised g (operations job g (at.left - 1) (phase_after o) z) (raise (slot g o) row)) x
         ∙ ap (λ (os : List Operation). raised g os row)
-        (sym (ap (λ (n : ℕ). operations job g n at.phase f) k ∙ operations_some job g (at.left - 1) at.phase f o (sym (next-is job g budget at f f' r s) ∙ e)))
+        (sym (ap (λ (n : ℕ). operations job g n at.phase f) k ∙ operations_some job g (at.left - 1) at.phase f o (sym (next_is job g budget at f f' r s) ∙ e)))
 
     -- nothing is next
-    pub row-over : r.next ≡ Nothing → row' ≡ row_to_come job g at f row
-    row-over e =
+    pub row_over : r.next ≡ Nothing → row' ≡ row_to_come job g at f row
+    row_over e =
         c ∙ ap (λ (t : Next). raise_next g t row) e
-        ∙ ap (λ (os : List Operation). raised g os row) (sym (operations_none job g at.left at.phase f (sym (next-is job g budget at f f' r s) ∙ e)))
+        ∙ ap (λ (os : List Operation). raised g os row) (sym (operations_none job g at.left at.phase f (sym (next_is job g budget at f f' r s) ∙ e)))
 
   -- the budget is used up
   pub row_spent : (at : Progress) (f : Flash) (row : List ℕ) → at.left ≡ 0 → row ≡ row_to_come job g at f row

@@ -1,4 +1,6 @@
 // The single step repeated, with each erase counted as soon as it is done.
+#![tactic(auto)]
+
 ghost use Rattle.std.specs.Prelude.{◌≡◌, ◌<◌, ◌≤◌, length};
 ghost use Rattle.flash.specs.Sizes.{firmware};
 ghost use Rattle.flash.specs.Buffers.{lent, Shaped};

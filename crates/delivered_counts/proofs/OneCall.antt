@@ -119,7 +119,7 @@ module _ (f : Flash) (h : Handed) (r : CountedGave) (k : Gives f h r) where
   is_power_up g fit long = by (fits (asked_geometry h) f) refl
     where
       inside : asked_geometry h ≡ g → fits (asked_geometry h) f ≡ true → IsPowerUp g f h r
-      inside same e = summed-right (ℕ_discrete (sum h.row) h.total)
+      inside same e = summed_right (ℕ_discrete (sum h.row) h.total)
         where
           l : length h.row ≡ row_length (asked_geometry h)
           l = long ∙ ap row_length (sym same)
@@ -132,9 +132,9 @@ module _ (f : Flash) (h : Handed) (r : CountedGave) (k : Gives f h r) where
               absurd (k.not20 (told 20
               (where_it_fits (asked_geometry h) f h.row h.total e ∙ rw (eq-eqb (length h.row) (row_length (asked_geometry h)) l, eq-eqb (sum h.row) h.total s, q) refl)))
 
-          summed-right : Dec (sum h.row ≡ h.total) → IsPowerUp g f h r
-          summed-right (yes s) = room s (some_above (4294967295 - firmware (asked_geometry h)) h.row) refl
-          summed-right (no s) = absurd (k.not19 (told 19 (total_wrong_lem (asked_geometry h) f h.row h.total e l s)))
+          summed_right : Dec (sum h.row ≡ h.total) → IsPowerUp g f h r
+          summed_right (yes s) = room s (some_above (4294967295 - firmware (asked_geometry h)) h.row) refl
+          summed_right (no s) = absurd (k.not19 (told 19 (total_wrong_lem (asked_geometry h) f h.row h.total e l s)))
 
       by : (b : Bool) → fits (asked_geometry h) f ≡ b → IsPowerUp g f h r
       by true e = inside (same_geometry g (asked_geometry h) f (shaped_of g f fit) (shaped_of (asked_geometry h) f e)) e

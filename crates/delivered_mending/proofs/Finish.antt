@@ -17,7 +17,7 @@ use Rattle.flash_status.specs.declared.UpdateStatus.TheVariants.{Updating}
 use Rattle.flash_status.specs.StatusBytes.{boot_status_at, update_status_of, update_status_at}
 use Rattle.flash_flags.specs.declared.Leg.{Leg}
 use Rattle.flash_flags.specs.declared.Flags.TheVariants.{All0}
-use Rattle.flash_flags.proofs.Laws.{status-flag}
+use Rattle.flash_flags.proofs.Laws.{status_flag}
 use Rattle.flash_flags.proofs.Moves.{shown_leg}
 use Rattle.exchange.specs.declared.Next.{Next}
 use Rattle.exchange.specs.declared.Job.TheVariants.{Update}
@@ -29,12 +29,12 @@ use Rattle.exchange.specs.PowerUp.{PowerUp, power_up}
 use Rattle.exchange.specs.LostPower.{Torn, perform_torn, tear_next}
 use Rattle.exchange.specs.Demand.{update, Underway, from_new, from_success, Finished, Ongoing, Event, untorn, lost, left, most}
 use Rattle.exchange.proofs.Orders.{next_by_reads}
-use Rattle.exchange.proofs.Sound.{put-update-status}
+use Rattle.exchange.proofs.Sound.{put_update_status}
 use Rattle.exchange.proofs.Stage.{erase_boot, write_testing, erase_update, Stage, in_leg_lem, at_last, at_end, closing, closing_left, next_leg, all_0}
 use Rattle.exchange.proofs.Walked.{Walked, walked}
 use Rattle.exchange.proofs.Shows.{unfinished}
 use Rattle.exchange.proofs.Decided.{Decides}
-use Rattle.exchange.proofs.Played.{OldRuns, old_runs, works, next-in, Played, played}
+use Rattle.exchange.proofs.Played.{OldRuns, old_runs, works, next_in_lem, Played, played}
 use Rattle.exchange.proofs.Whole.{closing_most, Begins, begins}
 use Rattle.exchange.proofs.Reached.{no_sectors, Ends, last}
 use Rattle.image.specs.Verdict.{check_of}
@@ -65,24 +65,24 @@ either g false new old a b = b
 
 module _ (g : Geometry) (G : Limits g) (t : Torn) (T : length t.bytes ≡ g.size) where
   torn_leg : (leg : Leg) (p i : ℕ) (f : Flash) → i < firmware g → Shaped g f → Stays g f → Stays g (perform_torn g t (leg_operation leg p (sector_number i)) f)
-  torn_leg leg zero i f hi s e = put-update-status g G (target leg) i t.bytes f T s hi ∙ e
-  torn_leg leg (suc zero) i f hi s e = put-update-status g G (target leg) i t.bytes f T s hi ∙ e
+  torn_leg leg zero i f hi s e = put_update_status g G (target leg) i t.bytes f T s hi ∙ e
+  torn_leg leg (suc zero) i f hi s e = put_update_status g G (target leg) i t.bytes f T s hi ∙ e
   torn_leg leg (suc (suc p)) i f hi s e =
-      either g t.new (perform g (WriteFlag (sector_number i) (next_flag leg)) f) f (ap update_status_of (status-flag g G f.update s.update i (next_flag leg) hi) ∙ e) e
+      either g t.new (perform g (WriteFlag (sector_number i) (next_flag leg)) f) f (ap update_status_of (status_flag g G f.update s.update i (next_flag leg) hi) ∙ e) e
 
   module _ {D : List ℕ → List ℕ → Type 0} (old : Flash) {b₀ : BootStatus} (B : Underway update b₀ Updating) where
-    torn-next : (f : Flash) (p r : ℕ) → Stage D g old B f p (suc (suc r)) → Stays g (tear_next g t (next_operation Update g p f) f)
-    torn-next f p r (in_leg_lem i leg hi hp s d e₁ e₂ ready n) =
+    torn_next : (f : Flash) (p r : ℕ) → Stage D g old B f p (suc (suc r)) → Stays g (tear_next g t (next_operation Update g p f) f)
+    torn_next f p r (in_leg_lem i leg hi hp s d e₁ e₂ ready n) =
         subst (λ (o : Next). Stays g (tear_next g t o f)) (sym (next_leg g update b₀ Updating B p i leg f e₁ e₂ (shown_leg g f.update i leg hi s.moves)))
         (torn_leg leg p i f hi s.shaped e₂)
-    torn-next f p r (at_last b u erase_boot le s e₁ e₂ n z) =
+    torn_next f p r (at_last b u erase_boot le s e₁ e₂ n z) =
         subst (λ (o : Next). Stays g (tear_next g t o f)) (sym (next_by_reads Update g p f b u All0 e₁ e₂ (all_0 g G old f s)))
         (either g t.new (perform g EraseBootTrailer f) f e₂ e₂)
-    torn-next f p r (at_last b u write_testing le s e₁ e₂ n z) =
+    torn_next f p r (at_last b u write_testing le s e₁ e₂ n z) =
         subst (λ (o : Next). Stays g (tear_next g t o f)) (sym (next_by_reads Update g p f b u All0 e₁ e₂ (all_0 g G old f s)))
         (either g t.new (perform g (WriteBootStatus Testing) f) f e₂ e₂)
-    torn-next f p r (at_last b u erase_update le s e₁ e₂ n z) = absurd (omega arith)
-    torn-next f p r (at_end b u c y s e₁ e₂ n z) = absurd (omega arith)
+    torn_next f p r (at_last b u erase_update le s e₁ e₂ n z) = absurd (omega arith)
+    torn_next f p r (at_end b u c y s e₁ e₂ n z) = absurd (omega arith)
 
 stays_unfinished : (g : Geometry) (f : Flash) → Stays g f → ¬ Finished update g f
 stays_unfinished g f e h = let z : ◌≡◌ {A = ℕ} 0 1 = cc in omega arith
@@ -95,23 +95,23 @@ module _ (check : Check) (g : Geometry) (G : Limits g) (old : Flash) {b₀ : Boo
     counts : (budget : ℕ) → (power_up check g f budget).count ≡ min budget (suc r)
     counts budget = ap (λ (a : PowerUp). a.count) (works check g G old B I f r s budget) ∙ (walked g G old B budget f 0 (suc r) s).counted
 
-    after-loss : (j : ℕ) (t : Torn) → length t.bytes ≡ g.size → (budget : ℕ) → j + 2 ≤ suc r → ¬ Finished update g (left check f (lost g budget j t)).flash
+    after_loss : (j : ℕ) (t : Torn) → length t.bytes ≡ g.size → (budget : ℕ) → j + 2 ≤ suc r → ¬ Finished update g (left check f (lost g budget j t)).flash
     unfolding left
-    after-loss j t T budget h =
+    after_loss j t T budget h =
         subst (λ (y : Flash). ¬ Finished update g y)
-        (sym (ap₂ (λ (o : Next) (a : PowerUp). tear_next g t o a.flash) (next-in check g G old B I f r s j) (works check g G old B I f r s j)))
+        (sym (ap₂ (λ (o : Next) (a : PowerUp). tear_next g t o a.flash) (next_in_lem check g G old B I f r s j) (works check g G old B I f r s j)))
         (by (run Update g j 0 f) (walked g G old B j f 0 (suc r) s))
       where
         by : (w : Run) → Walked (Decides check g B) g old B (suc r) j w → ¬ Finished update g (tear_next g t (next_operation Update g w.phase w.flash) w.flash)
         by w v =
             let e : suc r - w.count ≡ suc (suc (suc r - j - 2)) = omega (arith, v.counted) in
             stays_unfinished g (tear_next g t (next_operation Update g w.phase w.flash) w.flash)
-            (torn-next g G t T old B w.flash w.phase (suc r - j - 2)
+            (torn_next g G t T old B w.flash w.phase (suc r - j - 2)
             (subst (λ (n : ℕ). Stage (Decides check g B) g old B w.flash w.phase n) e v.stage))
 
-    broken-off : (j : ℕ) (t : Torn) → length t.bytes ≡ g.size → (budget : ℕ) → j + 2 ≤ suc r → suc r + 2 ≤ budget → Ends check g G old B I f (broken_off g j t budget)
+    broken_off_lem : (j : ℕ) (t : Torn) → length t.bytes ≡ g.size → (budget : ℕ) → j + 2 ≤ suc r → suc r + 2 ≤ budget → Ends check g G old B I f (broken_off g j t budget)
     unfolding left
-    broken-off j t T budget h k = record { allowed = ((n, tt), rest.allowed); finished = rest.finished }
+    broken_off_lem j t T budget h k = record { allowed = ((n, tt), rest.allowed); finished = rest.finished }
       where
         n : ¬ Finished update g f
         n = unfinished g old B f 0 r s
@@ -129,7 +129,7 @@ module _ (check : Check) (g : Geometry) (G : Limits g) (old : Flash) {b₀ : Boo
         p = played check g G old B I f r lose s (within, T)
 
         ends : Ends check g G old B I (left check f lose).flash (end ∷ [])
-        ends = last check g G old B I (left check f lose).flash p.pays.rest budget p.pays.stage (after-loss j t T budget h) (omega (arith, p.pays.paid))
+        ends = last check g G old B I (left check f lose).flash p.pays.rest budget p.pays.stage (after_loss j t T budget h) (omega (arith, p.pays.paid))
 
         both : Ends check g G old B I f (lose ∷ end ∷ [])
         both = record { allowed = ((n, (within, T)), ends.allowed); finished = ends.finished }
@@ -191,16 +191,16 @@ module _ (n s : ℕ) (f : Flash) (k : Mark) (bytes : ℕ) (u : List ℕ) (d : Me
       → FinishCalled g (left_by f u) (broken_off g j t budget)
   comes_to_finish j h t T budget l = by (stands_at W.may.statuses W.may.read_boot)
     where
-      as-calls : Ends check_of g G old W.may.statuses I (left_by f u) (broken_off g j t budget) → Called (AllowedCalls update g (left_by f u)) (left_by f u) (broken_off g j t budget)
+      as_calls : Ends check_of g G old W.may.statuses I (left_by f u) (broken_off g j t budget) → Called (AllowedCalls update g (left_by f u)) (left_by f u) (broken_off g j t budget)
           → FinishCalled g (left_by f u) (broken_off g j t budget)
-      as-calls e c = record { called = c; finished = subst (λ (y : Flash). Finished update g y) (sym c.leaves) e.finished }
+      as_calls e c = record { called = c; finished = subst (λ (y : Flash). Finished update g y) (sym c.leaves) e.finished }
 
       by : Begun g old (left_by f u) W.may.statuses moves → FinishCalled g (left_by f u) (broken_off g j t budget)
       by v =
           let e : Ends check_of g G old W.may.statuses I (left_by f u) (broken_off g j t budget)
-          = broken-off check_of g G old W.may.statuses I (left_by f u) v.more v.stage j t T budget (omega (arith, v.counted, closing_two W.may.statuses))
+          = broken_off_lem check_of g G old W.may.statuses I (left_by f u) v.more v.stage j t T budget (omega (arith, v.counted, closing_two W.may.statuses))
           (omega (arith, v.counted, closing_most W.may.statuses (firmware g))) in
-          as-calls e (every_list_called update g old (left_by f u) moves o (broken_off g j t budget) e.allowed)
+          as_calls e (every_list_called update g old (left_by f u) moves o (broken_off g j t budget) e.allowed)
 
   -- the count of a power-up that nothing disturbs
   all_counted_lem : boot_status_at g f.boot ≡ gives Success → (budget : ℕ) → most update (firmware g) ≤ budget

@@ -1,5 +1,7 @@
 // The hash computation of SHA-256, block by block: the message words in a window of 16 and the rounds on it. Numbers as 4.2.2 are
 // sections of FIPS 180-4.
+#![tactic(auto)]
+
 ghost use Rattle.std.specs.Prelude.{◌≡◌, ◌+◌, ◌*◌, ◌/◌, ◌≤◌, ◌<◌, length};
 ghost use Rattle.digest_fips180.specs.Sha256 as fips;
 ghost use Rattle.digest_rounds.specs.Window as window;

@@ -1,4 +1,6 @@
 // Blocks of 64 bytes, as SHA-256 pads a message and keeps what is pending of it. Numbers as 5.1.1 are sections of FIPS 180-4.
+#![tactic(auto)]
+
 ghost use Rattle.std.specs.Prelude.{◌≡◌, ◌+◌, ◌-◌, ◌≤◌, ◌++◌, length, take, replicate};
 ghost use Rattle.std.proofs.Math.Seq.{paste};
 ghost use Rattle.digest_fips180.specs.Sha256 as fips;

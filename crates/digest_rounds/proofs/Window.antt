@@ -129,10 +129,10 @@ window_0 v = refl
 
 pub window_holds : WindowHolds
 unfolding begin after round_on
-window_holds m h zero e l = first-window
+window_holds m h zero e l = first_window
   where
-    first-window : Holds m (window_for m 0) 0
-    first-window = rw (window_0 m) (holds_own m 0 e (omega arith))
+    first_window : Holds m (window_for m 0) 0
+    first_window = rw (window_0 m) (holds_own m 0 e (omega arith))
 window_holds m h (suc t) e l = moved m (after (begin m h) (suc t)).window t e l (window_holds m h t e (omega arith))
 
 -- ---- the rounds

@@ -1,6 +1,8 @@
 // The rounds of SHA-256, each with its message word out of a window of 16 words (document 02, request four). Numbers as 4.1.2 are
 // sections of FIPS 180-4. Ch and Maj take fewer operations than the standard writes, and the rotations fewer copies of a word:
 // proofs/Bits.antt has the laws.
+#![tactic(auto)]
+
 ghost use Rattle.std.specs.Prelude.{◌≡◌, ◌<◌};
 ghost use Rattle.digest_fips180.specs.Sha256 as fips;
 ghost use Rattle.digest_fips180.specs.Sha256.{◌⊞◌, σ₀, σ₁};
@@ -79,7 +81,7 @@ fn do_round(s: [u32; 8], k: u32, w: u32) -> [u32; 8]
 }
 
 // The window, in which word n stands at place n % 16, and the working variables.
-#[derive(Drop)]
+#[derive(Clone, Copy)]
 pub struct Rounds {
     pub window: [u32; 16],
     pub variables: [u32; 8],

@@ -1,4 +1,6 @@
 // SHA-256: the digest of a message that lies in one place, or comes in parts. Numbers as 5.3.3 are sections of FIPS 180-4.
+#![tactic(auto)]
+
 ghost use Rattle.std.specs.Prelude.{◌≡◌, ◌+◌, ◌%◌, ◌<◌, ◌≤◌, [], ◌++◌, length, take, replicate};
 ghost use Rattle.digest_fips180.specs.Sha256 as fips;
 ghost use Rattle.digest_sha256.specs.Parts as parts;
@@ -19,7 +21,7 @@ fn least(a: usize, b: usize) -> usize
 }
 
 // What has been absorbed of a message: the hash value after its whole blocks, the bytes after them, and how many bytes in all.
-#[derive(Drop)]
+#[derive(Clone, Copy)]
 pub struct Hasher {
     words: [u32; 8],
     pending: [u8; 64],
@@ -112,7 +114,7 @@ fn lay_two(p: &mut [u8], x: &[u8], y: &[u8])
     requires { (p.old ≡ replicate 64 0) × (length x.now + length y.now ≤ 64) }
     ensures { p.new ≡ parts.zeroed (x.now ++ y.now) }
 {
-    bytes::copy(x, p);
+    p[..x.len()].copy_from_slice(x);
     digest_bytes::put_over(p, x.len(), y);
 }
 

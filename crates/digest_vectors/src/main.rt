@@ -1,6 +1,8 @@
 // Prints SHA-256 digests as sha256sum does, one line for a message: 64 hexadecimal digits and the message's name.
 // The messages: the published ones (empty, abc, 448-bit, 896-bit, one million a), and the first n bytes of a fixed pattern for
 // each n from 0 to 200.
+#![tactic(auto)]
+
 use digest_sha256::Hasher;
 use libc::STDOUT_FILENO;
 

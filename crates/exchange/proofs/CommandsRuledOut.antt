@@ -20,7 +20,7 @@ use Rattle.exchange.specs.CommandsRuledOut.{done_with, TimeToArm, over_new, over
 use Rattle.flash.proofs.Checked.{shaped_of, shaped_fits}
 use Rattle.flash.proofs.Laws.{length_erased}
 use Rattle.flash_status.proofs.Ten.{boot_refused, update_refused}
-use Rattle.flash_flags.proofs.Laws.{boot_written, update_written, flags-erased, flags-status, length-status}
+use Rattle.flash_flags.proofs.Laws.{boot_written, update_written, flags_erased, flags_status, length_status}
 use Rattle.exchange.proofs.Sound.{put_shaped}
 
 -- ---- the two rules by the statuses and the flags
@@ -176,12 +176,12 @@ module _ (g : Geometry) (f : Flash) where
         fit = shaped_fits g (perform g (WriteUpdateStatus Updating) f₁) (record {
           limits = s.limits;
           boot = s.boot;
-          update = length-status g s.limits f₁.update s₁.update (update_byte Updating) ∙ s₁.update;
+          update = length_status g s.limits f₁.update s₁.update (update_byte Updating) ∙ s₁.update;
           swap = s.swap;
         });
         boot = r.boot;
         update = update_written g s.limits f₁.update s₁.update Updating;
-        flags = flags-status g s.limits f₁.update s₁.update (update_byte Updating) ∙ flags-erased g s.limits f.update s.update;
+        flags = flags_status g s.limits f₁.update s₁.update (update_byte Updating) ∙ flags_erased g s.limits f.update s.update;
       }
 
   arm_later : (b : BootStatus) (u : UpdateStatus) (n p : ℕ) → may_arm b u ≡ refused n p → Listed ArmNumber n p
@@ -241,7 +241,7 @@ module _ (g : Geometry) (f : Flash) where
       left = record {
         fit = shaped_fits g (perform g (WriteBootStatus Success) f) (record {
           limits = s.limits;
-          boot = length-status g s.limits f.boot s.boot (boot_byte Success) ∙ s.boot;
+          boot = length_status g s.limits f.boot s.boot (boot_byte Success) ∙ s.boot;
           update = s.update;
           swap = s.swap;
         });

@@ -63,27 +63,27 @@ module _ (check : Check) (g : Geometry) (G : Limits g) (old : Flash) {x : Exchan
     unfolding power_up
     refuses k = ap (carry_out check g' f k) (outside_decided check g' f w)
 
-    no-next : (k : ℕ) → next_after check g' f k ≡ Nothing
+    no_next : (k : ℕ) → next_after check g' f k ≡ Nothing
     unfolding next_after
-    no-next k = ap (next_in g' f k) (outside_decided check g' f w)
+    no_next k = ap (next_in g' f k) (outside_decided check g' f w)
 
-    refused-untorn : (b : ℕ) → Played f (suc r) (untorn g' b)
+    refused_untorn : (b : ℕ) → Played f (suc r) (untorn g' b)
     unfolding left
-    refused-untorn b = record {
+    refused_untorn b = record {
       pays = subst (λ (a : PowerUp). Paid (suc r) (left_untorn g' b a)) (sym (refuses b)) (record { rest = suc r; stage = s; paid = omega arith });
       moves = λ n m. absurd (n (subst (λ (a : PowerUp). IsRefusal a.outcome) (sym (refuses b)) tt));
       says = (ap (λ (a : PowerUp). a.reason) (refuses b), inl (w, ap (λ (a : PowerUp). a.outcome) (refuses b)));
     }
 
-    refused-lost : (b k : ℕ) (t : Torn) → k ≤ (power_up check g' f b).count → Played f (suc r) (lost g' b k t)
+    refused_lost : (b k : ℕ) (t : Torn) → k ≤ (power_up check g' f b).count → Played f (suc r) (lost g' b k t)
     unfolding left
-    refused-lost b k t h =
+    refused_lost b k t h =
         let z : k ≤ 0 = subst (λ (a : PowerUp). k ≤ a.count) (refuses b) h in
         record {
           pays = record {
             rest = suc r;
             stage = subst (λ (y : Flash). Stage (Decides check g B) g old B y 0 (suc r))
-                (sym (ap₂ (λ (o : Next) (a : PowerUp). tear_next g' t o a.flash) (no-next k) (refuses k))) s;
+                (sym (ap₂ (λ (o : Next) (a : PowerUp). tear_next g' t o a.flash) (no_next k) (refuses k))) s;
             paid = omega arith;
           };
           moves = tt;
@@ -95,13 +95,13 @@ module _ (check : Check) (g : Geometry) (G : Limits g) (old : Flash) {x : Exchan
     pub works : (k : ℕ) → power_up check g f k ≡ worked check g (job_of x) no_reason (run (job_of x) g k 0 f)
     works k = power_up_works check g f k (job_of x) no_reason (decided check g G old B f r s)
 
-    pub next-in : (k : ℕ) → next_after check g f k ≡ next_operation (job_of x) g (run (job_of x) g k 0 f).phase (run (job_of x) g k 0 f).flash
+    pub next_in_lem : (k : ℕ) → next_after check g f k ≡ next_operation (job_of x) g (run (job_of x) g k 0 f).phase (run (job_of x) g k 0 f).flash
     unfolding next_after
-    next-in k = ap (next_in g f k) (decided check g G old B f r s)
+    next_in_lem k = ap (next_in g f k) (decided check g G old B f r s)
 
     -- untorn: the end, or a cut
-    pays-untorn : (k : ℕ) (w : Run) → Walked (Decides check g B) g old B (suc r) k w → Paid (suc r) (left_untorn g k (worked check g (job_of x) no_reason w))
-    pays-untorn k w v = by (suc r - w.count) refl v.stage
+    pays_untorn : (k : ℕ) (w : Run) → Walked (Decides check g B) g old B (suc r) k w → Paid (suc r) (left_untorn g k (worked check g (job_of x) no_reason w))
+    pays_untorn k w v = by (suc r - w.count) refl v.stage
       where
         goal : Type 0
         goal = Paid (suc r) (left_untorn g k (worked check g (job_of x) no_reason w))
@@ -122,9 +122,9 @@ module _ (check : Check) (g : Geometry) (G : Limits g) (old : Flash) {x : Exchan
             }
 
     -- power lost after k
-    pays-lost : (k : ℕ) (t : Torn) (w : Run) → length t.bytes ≡ g.size → k ≤ suc r → Walked (Decides check g B) g old B (suc r) k w
+    pays_lost : (k : ℕ) (t : Torn) (w : Run) → length t.bytes ≡ g.size → k ≤ suc r → Walked (Decides check g B) g old B (suc r) k w
         → Paid (suc r) (left_lost k (tear_next g t (next_operation (job_of x) g w.phase w.flash) w.flash))
-    pays-lost k t w T h v = by (suc r - w.count) refl v.stage
+    pays_lost k t w T h v = by (suc r - w.count) refl v.stage
       where
         goal : Type 0
         goal = Paid (suc r) (left_lost k (tear_next g t (next_operation (job_of x) g w.phase w.flash) w.flash))
@@ -141,9 +141,9 @@ module _ (check : Check) (g : Geometry) (G : Limits g) (old : Flash) {x : Exchan
                 (record { rest = (torn t T).0; stage = (torn t T).2; paid = omega (arith, (torn t T).1, v.counted, phase_small g G old B w.flash w.phase (suc q) y) })
 
     -- at the end BOOT holds the old UPDATE's firmware, which was good
-    pub says-untorn : (b : ℕ) (w : Run) → Walked (Decides check g B) g old B (suc r) b w
+    pub says_untorn : (b : ℕ) (w : Run) → Walked (Decides check g B) g old B (suc r) b w
         → CutOrDone x g (worked check g (job_of x) no_reason w).outcome w.flash
-    says-untorn b w v = by (suc r - w.count) v.stage
+    says_untorn b w v = by (suc r - w.count) v.stage
       where
         goal : Type 0
         goal = CutOrDone x g (worked check g (job_of x) no_reason w).outcome w.flash
@@ -159,8 +159,8 @@ module _ (check : Check) (g : Geometry) (G : Limits g) (old : Flash) {x : Exchan
             cuts : Stepped (Decides check g B) g old B w.flash w.phase q → goal
             cuts (stepped o n s' torn) = inl (ap (λ (z : Next). outcome_by z (job_of x) (check g w.flash.boot)) n, unfinished g old B w.flash w.phase q y)
 
-    moves-untorn : (b : ℕ) → 3 ≤ b → Finished x g (run (job_of x) g b 0 f).flash ⊎ FlagMovedOn g f (run (job_of x) g b 0 f).flash
-    moves-untorn b h = by (run (job_of x) g b 0 f) (walked g G old B b f 0 (suc r) s)
+    moves_untorn : (b : ℕ) → 3 ≤ b → Finished x g (run (job_of x) g b 0 f).flash ⊎ FlagMovedOn g f (run (job_of x) g b 0 f).flash
+    moves_untorn b h = by (run (job_of x) g b 0 f) (walked g G old B b f 0 (suc r) s)
       where
         by : (w : Run) → Walked (Decides check g B) g old B (suc r) b w → Finished x g w.flash ⊎ FlagMovedOn g f w.flash
         by w v = order (dec_lt (suc r) b)
@@ -171,29 +171,29 @@ module _ (check : Check) (g : Geometry) (G : Limits g) (old : Flash) {x : Exchan
                 inl (end_of g old B w.flash w.phase (subst (λ (n : ℕ). Stage (Decides check g B) g old B w.flash w.phase n) e v.stage))
             order (no l) = moved_on g old B f w.flash w.phase (suc r) w.count (omega (arith, v.counted)) (omega (arith, v.counted)) s v.stage
 
-    right-untorn : (b : ℕ) → Played f (suc r) (untorn g b)
+    right_untorn : (b : ℕ) → Played f (suc r) (untorn g b)
     unfolding left
-    right-untorn b = record {
-      pays = subst (λ (a : PowerUp). Paid (suc r) (left_untorn g b a)) (sym (works b)) (pays-untorn b (run (job_of x) g b 0 f) (walked g G old B b f 0 (suc r) s));
-      moves = λ n m. subst (λ (a : PowerUp). Finished x g a.flash ⊎ FlagMovedOn g f a.flash) (sym (works b)) (moves-untorn b (omega arith));
+    right_untorn b = record {
+      pays = subst (λ (a : PowerUp). Paid (suc r) (left_untorn g b a)) (sym (works b)) (pays_untorn b (run (job_of x) g b 0 f) (walked g G old B b f 0 (suc r) s));
+      moves = λ n m. subst (λ (a : PowerUp). Finished x g a.flash ⊎ FlagMovedOn g f a.flash) (sym (works b)) (moves_untorn b (omega arith));
       says = (
         ap (λ (a : PowerUp). a.reason) (works b),
         inr (
           shaped_fits g f (shaped_at s),
           subst (λ (a : PowerUp). CutOrDone x g a.outcome a.flash) (sym (works b))
-              (says-untorn b (run (job_of x) g b 0 f) (walked g G old B b f 0 (suc r) s)),
+              (says_untorn b (run (job_of x) g b 0 f) (walked g G old B b f 0 (suc r) s)),
         ),
       );
     }
 
-    right-lost : (b k : ℕ) (t : Torn) → k ≤ (power_up check g f b).count → length t.bytes ≡ g.size → Played f (suc r) (lost g b k t)
+    right_lost : (b k : ℕ) (t : Torn) → k ≤ (power_up check g f b).count → length t.bytes ≡ g.size → Played f (suc r) (lost g b k t)
     unfolding left
-    right-lost b k t h T =
+    right_lost b k t h T =
         let z : k ≤ (run (job_of x) g b 0 f).count = subst (λ (a : PowerUp). k ≤ a.count) (works b) h in
         record {
           pays = subst (λ (y : Flash). Paid (suc r) (left_lost k y))
-              (sym (ap₂ (λ (o : Next) (a : PowerUp). tear_next g t o a.flash) (next-in k) (works k)))
-              (pays-lost k t (run (job_of x) g k 0 f) T (omega (arith, (walked g G old B b f 0 (suc r) s).counted)) (walked g G old B k f 0 (suc r) s));
+              (sym (ap₂ (λ (o : Next) (a : PowerUp). tear_next g t o a.flash) (next_in_lem k) (works k)))
+              (pays_lost k t (run (job_of x) g k 0 f) T (omega (arith, (walked g G old B b f 0 (suc r) s).counted)) (walked g G old B k f 0 (suc r) s));
           moves = tt;
           says = tt;
         }
@@ -206,12 +206,12 @@ module _ (check : Check) (g : Geometry) (G : Limits g) (old : Flash) {x : Exchan
   played f r (untorn g' b) s h = by (fits g' f) refl
     where
       by : (y : Bool) → fits g' f ≡ y → Played f (suc r) (untorn g' b)
-      by false w = refused-untorn g' f r s w b
-      by true w = subst (λ (q : Geometry). Played f (suc r) (untorn q b)) (right f r s g' w) (right-untorn f r s b)
+      by false w = refused_untorn g' f r s w b
+      by true w = subst (λ (q : Geometry). Played f (suc r) (untorn q b)) (right f r s g' w) (right_untorn f r s b)
   played f r (lost g' b k t) s h = by (fits g' f) refl
     where
       by : (y : Bool) → fits g' f ≡ y → Played f (suc r) (lost g' b k t)
-      by false w = refused-lost g' f r s w b k t h.0
+      by false w = refused_lost g' f r s w b k t h.0
       by true w =
           subst (λ (q : Geometry). k ≤ (power_up check q f b).count → Played f (suc r) (lost q b k t)) (right f r s g' w)
-          (λ c. right-lost f r s b k t c h.1) h.0
+          (λ c. right_lost f r s b k t c h.1) h.0

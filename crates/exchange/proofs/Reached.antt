@@ -27,7 +27,7 @@ use Rattle.exchange.proofs.Stage.{closing, closing_left, Stage, in_leg_lem, at_l
 use Rattle.exchange.proofs.Walked.{closing_some, Walked, walked}
 use Rattle.exchange.proofs.Shows.{end_of, unfinished}
 use Rattle.exchange.proofs.Decided.{Decides, decided}
-use Rattle.exchange.proofs.Played.{OldRuns, old_runs, works, next-in, Played, played}
+use Rattle.exchange.proofs.Played.{OldRuns, old_runs, works, next_in_lem, Played, played}
 use Rattle.exchange.proofs.Whole.{closing_most, Again, again, Begins, begins, starts_ongoing, StageOf, stage_of}
 
 -- a geometry of no sectors is refused
@@ -64,19 +64,19 @@ module _ (check : Check) (g : Geometry) (G : Limits g) (old : Flash) {x : Exchan
     unfolding run
     first_run = run_some (job_of x) g 0 0 old (Erase Swap (sector_number 0)) (next_leg g x b₀ u₀ B 0 0 UpdateToSwap old e₁ e₂ e₃)
 
-    copy-next : next_after check g old 1 ≡ Do (Copy UpdateToSwap (sector_number 0))
-    copy-next =
-        next-in check g G old B I old r s 1 ∙ ap (λ (w : Run). next_operation (job_of x) g w.phase w.flash) first_run
+    copy_next : next_after check g old 1 ≡ Do (Copy UpdateToSwap (sector_number 0))
+    copy_next =
+        next_in_lem check g G old B I old r s 1 ∙ ap (λ (w : Run). next_operation (job_of x) g w.phase w.flash) first_run
         ∙ next_leg g x b₀ u₀ B 1 0 UpdateToSwap (perform g (Erase Swap (sector_number 0)) old) e₁ e₂ e₃
 
-    torn-left : (t : Torn) (budget : ℕ) → (left check old (lost g budget 1 t)).flash ≡ flash old.boot old.update t.bytes
+    torn_left : (t : Torn) (budget : ℕ) → (left check old (lost g budget 1 t)).flash ≡ flash old.boot old.update t.bytes
     unfolding left
-    torn-left t budget =
-        ap₂ (λ (o : Next) (y : Flash). tear_next g t o y) copy-next
+    torn_left t budget =
+        ap₂ (λ (o : Next) (y : Flash). tear_next g t o y) copy_next
         (ap (λ (a : PowerUp). a.flash) (works check g G old B I old r s 1) ∙ ap (λ (w : Run). w.flash) first_run)
 
-    same-finish : (y : List ℕ) → Finished x g (flash old.boot old.update y) → Finished x g old
-    same-finish y = by B
+    same_finish : (y : List ℕ) → Finished x g (flash old.boot old.update y) → Finished x g old
+    same_finish y = by B
       where
         by : {x : Exchange} {b : BootStatus} {u : UpdateStatus} → Underway x b u → Finished x g (flash old.boot old.update y) → Finished x g old
         by from_new h = h
@@ -87,7 +87,7 @@ module _ (check : Check) (g : Geometry) (G : Limits g) (old : Flash) {x : Exchan
     unfolding left
     reached t T budget h = record {
       first_refused = ap (λ (a : PowerUp). a.outcome) (no_sectors check old budget);
-      copy_torn = copy-next;
+      copy_torn = copy_next;
       allowed = ((n, tt), rest.allowed);
       finished = rest.finished;
     }
@@ -107,13 +107,13 @@ module _ (check : Check) (g : Geometry) (G : Limits g) (old : Flash) {x : Exchan
         p : Played check g G old B I old (suc r) lose
         p = played check g G old B I old r lose s (counts, T)
 
-        after-loss : Ends (left check old lose).flash (end ∷ [])
-        after-loss =
+        after_loss : Ends (left check old lose).flash (end ∷ [])
+        after_loss =
             last (left check old lose).flash p.pays.rest budget p.pays.stage
-            (λ f. n (same-finish t.bytes (subst (λ (y : Flash). Finished x g y) (torn-left t budget) f))) (omega (arith, p.pays.paid))
+            (λ f. n (same_finish t.bytes (subst (λ (y : Flash). Finished x g y) (torn_left t budget) f))) (omega (arith, p.pays.paid))
 
         both : Ends old (lose ∷ end ∷ [])
-        both = record { allowed = ((n, (counts, T)), after-loss.allowed); finished = after-loss.finished }
+        both = record { allowed = ((n, (counts, T)), after_loss.allowed); finished = after_loss.finished }
 
         rest : Ends (left check old (untorn (geometry 0 0) budget)).flash (lose ∷ end ∷ [])
         rest = subst (λ (a : PowerUp). Ends a.flash (lose ∷ end ∷ [])) (sym (no_sectors check old budget)) both
@@ -154,12 +154,12 @@ along_at check g G old {x} B o r a w h k v = by (r - w.count) v.stage (omega (ar
   where
     by : (q : ℕ) → Stage (Decides check g B) g old B w.flash w.phase q → q + 3 * a ≡ 9 * firmware g + closing_left (closing B) → Ongoing check x g old w.flash a
     by zero y e = absurd (omega (arith, closing_some (closing B)))
-    by (suc q) y e = moves-are
+    by (suc q) y e = moves_are
         (again check g G old B o.old_whole o.old_good w.flash q
         (subst (λ (n : ℕ). Stage (Decides check g B) g old B w.flash n (suc q)) (top_again (Decides check g B) g old B w.flash w.phase a (suc q) e y) y))
       where
-        moves-are : Again check g old B w.flash (suc q) → Ongoing check x g old w.flash a
-        moves-are z =
+        moves_are : Again check g old B w.flash (suc q) → Ongoing check x g old w.flash a
+        moves_are z =
             let m : z.moves ≡ a = omega (arith, z.most_left, z.least_left) in subst (λ (n : ℕ). Ongoing check x g old w.flash n) m z.ongoing
 
 pub stages_reached : StagesReached

@@ -24,7 +24,7 @@ use Rattle.exchange.specs.Demand.{Exchange, update, fallback, job_of, Starts, Un
 use Rattle.exchange.specs.RuledOut.{Reads, StatusBad, in_boot, in_update, IsRun, ToldOf, on_test, fallen_back, as_plain, as_list, BadBoot, bad_boot, TurnedDown, BeforeWork, outside_rules, status_not_allowed, flags_not_well_formed, no_good_fallback, RefusedBefore, RuledOut}
 use Rattle.flash.proofs.Checked.{shaped_of}
 use Rattle.flash_status.proofs.Ten.{boot_refused, update_refused}
-use Rattle.flash_flags.proofs.Laws.{update-erased}
+use Rattle.flash_flags.proofs.Laws.{update_erased}
 use Rattle.exchange.proofs.Orders.{next_by_reads, decide_by_reads}
 use Rattle.exchange.proofs.Runs.{run_none, run_some, run_count, run_flash, operations_first, operations_next, run_within, power_up_works}
 use Rattle.exchange.proofs.Accepted.{Images, Accepted, begun, not_newer_lem, accepted, boot_is_12, update_is_13}
@@ -421,7 +421,7 @@ down g f b (suc k) e e₁ e₂ h =
     let f' : Flash = perform g EraseUpdateTrailer f in
     run_some TurnDown g k 0 f EraseUpdateTrailer (next_by_reads TurnDown g 0 f b Updating (flags_at g f.update) e₁ e₂ refl)
     ∙ ap one_more (run_none TurnDown g k 0 f'
-    (next_by_reads TurnDown g 0 f' b UpdateNew (flags_at g f'.update) e₁ (update-erased g s.limits f.update s.update) refl))
+    (next_by_reads TurnDown g 0 f' b UpdateNew (flags_at g f'.update) e₁ (update_erased g s.limits f.update s.update) refl))
 
 carried_down : (check : Check) (g : Geometry) (f : Flash) (budget n p : ℕ) (y : Plan) → PlannedOf check g f y
     → (carry_out check g f budget y).reason ≡ because n p → 1 ≤ budget → TurnedDown g f (carry_out check g f budget y)

@@ -13,8 +13,8 @@ use Rattle.exchange.specs.declared.Area.TheVariants.{Boot, Update, Swap}
 use Rattle.exchange.specs.declared.Operation.TheVariants.{WriteFlag, EraseBootTrailer, EraseUpdateTrailer, WriteBootStatus}
 use Rattle.exchange.specs.Operations.{get, put, perform, target, source, next_flag, old_boot_in, old_update_in}
 use Rattle.flash.proofs.Bytes.{length_part}
-use Rattle.flash.proofs.Laws.{length-sector, sector_same, sector-other, length_erased, sector_in}
-use Rattle.flash_flags.proofs.Laws.{status-sector, flag-sector, length-flag, sector-flag, length-status, sector-status}
+use Rattle.flash.proofs.Laws.{length_sector, sector_same, sector_other, length_erased, sector_in}
+use Rattle.flash_flags.proofs.Laws.{status_sector, flag_sector, length_flag, sector_flag, length_status, sector_status}
 use Rattle.flash_flags.specs.SectorFlags.{leg_moves}
 use Rattle.flash_flags.proofs.Moves.{moved_none, moved_all, leg_below, AfterMoves, moves_on_lem}
 
@@ -90,50 +90,50 @@ module _ (g : Geometry) (G : Limits g) where
   -- ---- a sector is written
   pub put_shaped : (d : Area) (i : ℕ) (x : List ℕ) (f : Flash) → i ≤ firmware g → length x ≡ g.size → Shaped g f → Shaped g (put g d i x f)
   put_shaped Boot i x f hi X s =
-      record { limits = G; boot = length-sector g G f.boot x s.boot X i hi ∙ s.boot; update = s.update; swap = s.swap }
+      record { limits = G; boot = length_sector g G f.boot x s.boot X i hi ∙ s.boot; update = s.update; swap = s.swap }
   put_shaped Update i x f hi X s =
-      record { limits = G; boot = s.boot; update = length-sector g G f.update x s.update X i hi ∙ s.update; swap = s.swap }
+      record { limits = G; boot = s.boot; update = length_sector g G f.update x s.update X i hi ∙ s.update; swap = s.swap }
   put_shaped Swap i x f hi X s = record { limits = G; boot = s.boot; update = s.update; swap = X }
 
   module _ (d : Area) (i : ℕ) (x : List ℕ) (f : Flash) (X : length x ≡ g.size) (s : Shaped g f) where
-    put-flag : (j : ℕ) → i < firmware g → j < firmware g → flag_at g (put g d i x f).update j ≡ flag_at g f.update j
-    put-flag j hi hj = by d
+    put_flag : (j : ℕ) → i < firmware g → j < firmware g → flag_at g (put g d i x f).update j ≡ flag_at g f.update j
+    put_flag j hi hj = by d
       where
         by : (d : Area) → flag_at g (put g d i x f).update j ≡ flag_at g f.update j
         by Boot = refl
-        by Update = flag-sector g G f.update x s.update X i hi j hj
+        by Update = flag_sector g G f.update x s.update X i hi j hj
         by Swap = refl
 
-    pub put-boot-status : i < firmware g → boot_status_at g (put g d i x f).boot ≡ boot_status_at g f.boot
-    put-boot-status hi = by d
+    pub put_boot_status : i < firmware g → boot_status_at g (put g d i x f).boot ≡ boot_status_at g f.boot
+    put_boot_status hi = by d
       where
         by : (d : Area) → boot_status_at g (put g d i x f).boot ≡ boot_status_at g f.boot
-        by Boot = ap boot_status_of (status-sector g G f.boot x s.boot X i hi)
+        by Boot = ap boot_status_of (status_sector g G f.boot x s.boot X i hi)
         by Update = refl
         by Swap = refl
 
-    pub put-update-status : i < firmware g → update_status_at g (put g d i x f).update ≡ update_status_at g f.update
-    put-update-status hi = by d
+    pub put_update_status : i < firmware g → update_status_at g (put g d i x f).update ≡ update_status_at g f.update
+    put_update_status hi = by d
       where
         by : (d : Area) → update_status_at g (put g d i x f).update ≡ update_status_at g f.update
         by Boot = refl
-        by Update = ap update_status_of (status-sector g G f.update x s.update X i hi)
+        by Update = ap update_status_of (status_sector g G f.update x s.update X i hi)
         by Swap = refl
 
-    put-boot-other : (j : ℕ) → i ≤ firmware g → j ≢ i → get g Boot j (put g d i x f) ≡ get g Boot j f
-    put-boot-other j hi k = by d
+    put_boot_other : (j : ℕ) → i ≤ firmware g → j ≢ i → get g Boot j (put g d i x f) ≡ get g Boot j f
+    put_boot_other j hi k = by d
       where
         by : (d : Area) → get g Boot j (put g d i x f) ≡ get g Boot j f
-        by Boot = sector-other g G f.boot x s.boot X i hi j k
+        by Boot = sector_other g G f.boot x s.boot X i hi j k
         by Update = refl
         by Swap = refl
 
-    put-update-other : (j : ℕ) → i ≤ firmware g → j ≢ i → get g Update j (put g d i x f) ≡ get g Update j f
-    put-update-other j hi k = by d
+    put_update_other : (j : ℕ) → i ≤ firmware g → j ≢ i → get g Update j (put g d i x f) ≡ get g Update j f
+    put_update_other j hi k = by d
       where
         by : (d : Area) → get g Update j (put g d i x f) ≡ get g Update j f
         by Boot = refl
-        by Update = sector-other g G f.update x s.update X i hi j k
+        by Update = sector_other g G f.update x s.update X i hi j k
         by Swap = refl
 
   -- a leg writes neither place of its sector
@@ -154,11 +154,11 @@ module _ (g : Geometry) (G : Limits g) where
     pub scratch : (x : List ℕ) → length x ≡ g.size → Sound g old (3 * i + leg_moves leg) (put g (target leg) i x f)
     scratch x X = record {
       shaped = put_shaped d i x f (omega arith) X s.shaped;
-      moves = λ j hj. put-flag d i x f X s.shaped j hi hj ∙ s.moves j hj;
+      moves = λ j hj. put_flag d i x f X s.shaped j hi hj ∙ s.moves j hj;
       boot_in = λ j hj. keep g f f' i leg j old_boot_in (target_not_boot leg i j x f)
-          (λ k. put-boot-other d i x f X s.shaped j (omega arith) k) (λ k. put-update-other d i x f X s.shaped j (omega arith) k) ∙ s.boot_in j hj;
+          (λ k. put_boot_other d i x f X s.shaped j (omega arith) k) (λ k. put_update_other d i x f X s.shaped j (omega arith) k) ∙ s.boot_in j hj;
       update_in = λ j hj. keep g f f' i leg j old_update_in (target_not_update leg i j x f)
-          (λ k. put-update-other d i x f X s.shaped j (omega arith) k) (λ k. put-boot-other d i x f X s.shaped j (omega arith) k) ∙ s.update_in j hj;
+          (λ k. put_update_other d i x f X s.shaped j (omega arith) k) (λ k. put_boot_other d i x f X s.shaped j (omega arith) k) ∙ s.update_in j hj;
     }
       where
         d : Area
@@ -168,11 +168,11 @@ module _ (g : Geometry) (G : Limits g) where
         f' = put g d i x f
 
     -- a copy makes it ready
-    pub length-source : length (get g (source leg) i f) ≡ g.size
-    length-source = sized g f s.shaped (source leg) i hi
+    pub length_source : length (get g (source leg) i f) ≡ g.size
+    length_source = sized g f s.shaped (source leg) i hi
 
     pub copied : Ready g leg i (put g (target leg) i (get g (source leg) i f) f)
-    copied = by leg length-source
+    copied = by leg length_source
       where
         by : (leg : Leg) → length (get g (source leg) i f) ≡ g.size → Ready g leg i (put g (target leg) i (get g (source leg) i f) f)
         by UpdateToSwap X = refl
@@ -185,13 +185,13 @@ module _ (g : Geometry) (G : Limits g) where
       shaped = record {
         limits = G;
         boot = s.shaped.boot;
-        update = length-flag g G f.update s.shaped.update i v hi ∙ s.shaped.update;
+        update = length_flag g G f.update s.shaped.update i v hi ∙ s.shaped.update;
         swap = s.shaped.swap;
       };
       moves = subst (λ (w : Flag). AfterMoves g (set_flag g i w f.update) (suc (3 * i + leg_moves leg))) (sym (next_moved leg))
           (moves_on_lem g G f.update s.shaped.update i leg hi s.moves);
-      boot_in = λ j hj. place-by old_boot_in moved-boot j hj (ℕ_discrete j i) ∙ s.boot_in j hj;
-      update_in = λ j hj. place-by old_update_in moved-update j hj (ℕ_discrete j i) ∙ s.update_in j hj;
+      boot_in = λ j hj. place_by old_boot_in moved_boot j hj (ℕ_discrete j i) ∙ s.boot_in j hj;
+      update_in = λ j hj. place_by old_update_in moved_update j hj (ℕ_discrete j i) ∙ s.update_in j hj;
     }
       where
         v : Flag
@@ -200,38 +200,38 @@ module _ (g : Geometry) (G : Limits g) where
         f' : Flash
         f' = perform g (WriteFlag (sector_number i) v) f
 
-        same-sector : (d : Area) (j : ℕ) → j < firmware g → get g d j f' ≡ get g d j f
-        same-sector Boot j hj = refl
-        same-sector Update j hj = sector-flag g G f.update s.shaped.update i v hi j hj
-        same-sector Swap j hj = refl
+        same_sector : (d : Area) (j : ℕ) → j < firmware g → get g d j f' ≡ get g d j f
+        same_sector Boot j hj = refl
+        same_sector Update j hj = sector_flag g G f.update s.shaped.update i v hi j hj
+        same_sector Swap j hj = refl
 
-        moved-boot : get g (old_boot_in (moved (suc (leg_moves leg)))) i f ≡ get g (old_boot_in (moved (leg_moves leg))) i f
-        moved-boot = by leg ready
+        moved_boot : get g (old_boot_in (moved (suc (leg_moves leg)))) i f ≡ get g (old_boot_in (moved (leg_moves leg))) i f
+        moved_boot = by leg ready
           where
             by : (leg : Leg) → Ready g leg i f → get g (old_boot_in (moved (suc (leg_moves leg)))) i f ≡ get g (old_boot_in (moved (leg_moves leg))) i f
             by UpdateToSwap r = refl
             by BootToUpdate r = r
             by SwapToBoot r = refl
 
-        moved-update : get g (old_update_in (moved (suc (leg_moves leg)))) i f ≡ get g (old_update_in (moved (leg_moves leg))) i f
-        moved-update = by leg ready
+        moved_update : get g (old_update_in (moved (suc (leg_moves leg)))) i f ≡ get g (old_update_in (moved (leg_moves leg))) i f
+        moved_update = by leg ready
           where
             by : (leg : Leg) → Ready g leg i f → get g (old_update_in (moved (suc (leg_moves leg)))) i f ≡ get g (old_update_in (moved (leg_moves leg))) i f
             by UpdateToSwap r = r
             by BootToUpdate r = refl
             by SwapToBoot r = r
 
-        place-by : (h : Flag → Area) → get g (h (moved (suc (leg_moves leg)))) i f ≡ get g (h (moved (leg_moves leg))) i f → (j : ℕ) → j < firmware g → Dec (j ≡ i)
+        place_by : (h : Flag → Area) → get g (h (moved (suc (leg_moves leg)))) i f ≡ get g (h (moved (leg_moves leg))) i f → (j : ℕ) → j < firmware g → Dec (j ≡ i)
             → get g (h (moved (suc (3 * i + leg_moves leg) - 3 * j))) j f' ≡ get g (h (moved (3 * i + leg_moves leg - 3 * j))) j f
-        place-by h m j hj (yes e) =
+        place_by h m j hj (yes e) =
             let q : suc (3 * i + leg_moves leg) - 3 * j ≡ suc (leg_moves leg) = omega arith in
             let q' : 3 * i + leg_moves leg - 3 * j ≡ leg_moves leg = omega arith in
-            same-sector (h (moved (suc (3 * i + leg_moves leg) - 3 * j))) j hj
+            same_sector (h (moved (suc (3 * i + leg_moves leg) - 3 * j))) j hj
             ∙ ap (λ (b : ℕ). get g (h (moved b)) j f) q
             ∙ ap (λ (n : ℕ). get g (h (moved (suc (leg_moves leg)))) n f) e ∙ m ∙ ap (λ (n : ℕ). get g (h (moved (leg_moves leg))) n f) (sym e)
             ∙ ap (λ (b : ℕ). get g (h (moved b)) j f) (sym q')
-        place-by h m j hj (no k) =
-            same-sector (h (moved (suc (3 * i + leg_moves leg) - 3 * j))) j hj
+        place_by h m j hj (no k) =
+            same_sector (h (moved (suc (3 * i + leg_moves leg) - 3 * j))) j hj
             ∙ ap (λ (w : Flag). get g (h w) j f) (sym (same_moved (far i leg j k)))
 
   -- ---- after the last leg
@@ -250,27 +250,27 @@ module _ (g : Geometry) (G : Limits g) where
     below : (j : ℕ) → j < firmware g → j ≢ firmware g
     below j h e = omega arith
 
-    pub boot-trailer : Crossed g old (perform g EraseBootTrailer f)
-    boot-trailer = record {
+    pub boot_trailer_lem : Crossed g old (perform g EraseBootTrailer f)
+    boot_trailer_lem = record {
       shaped = put_shaped Boot (firmware g) (erased g.size) f (omega arith) (length_erased g.size) s.shaped;
       flags0 = s.flags0;
-      boot_is = λ j hj. put-boot-other Boot (firmware g) (erased g.size) f (length_erased g.size) s.shaped j (omega arith) (below j hj) ∙ s.boot_is j hj;
+      boot_is = λ j hj. put_boot_other Boot (firmware g) (erased g.size) f (length_erased g.size) s.shaped j (omega arith) (below j hj) ∙ s.boot_is j hj;
       update_is = s.update_is;
     }
 
-    pub boot-status : (v : BootStatus) → Crossed g old (perform g (WriteBootStatus v) f)
-    boot-status v = record {
+    pub boot_status_lem : (v : BootStatus) → Crossed g old (perform g (WriteBootStatus v) f)
+    boot_status_lem v = record {
       shaped = record {
         limits = G;
-        boot = length-status g G f.boot s.shaped.boot (boot_byte v) ∙ s.shaped.boot;
+        boot = length_status g G f.boot s.shaped.boot (boot_byte v) ∙ s.shaped.boot;
         update = s.shaped.update;
         swap = s.shaped.swap;
       };
       flags0 = s.flags0;
-      boot_is = λ j hj. sector-status g G f.boot s.shaped.boot (boot_byte v) j hj ∙ s.boot_is j hj;
+      boot_is = λ j hj. sector_status g G f.boot s.shaped.boot (boot_byte v) j hj ∙ s.boot_is j hj;
       update_is = s.update_is;
     }
 
-    pub update-trailer : (j : ℕ) → j < firmware g → get g Update j (perform g EraseUpdateTrailer f) ≡ get g Boot j old
-    update-trailer j hj =
-        put-update-other Update (firmware g) (erased g.size) f (length_erased g.size) s.shaped j (omega arith) (below j hj) ∙ s.update_is j hj
+    pub update_trailer_lem : (j : ℕ) → j < firmware g → get g Update j (perform g EraseUpdateTrailer f) ≡ get g Boot j old
+    update_trailer_lem j hj =
+        put_update_other Update (firmware g) (erased g.size) f (length_erased g.size) s.shaped j (omega arith) (below j hj) ∙ s.update_is j hj

@@ -20,12 +20,12 @@ use Rattle.exchange.specs.LostPower.{Torn, perform_torn}
 use Rattle.exchange.specs.Demand.{Exchange, update, fallback, job_of, LastBytes, flags_at_finish, Underway, from_new, from_success, from_testing}
 use Rattle.flash.proofs.Checked.{some_firmware}
 use Rattle.flash.proofs.Laws.{length_erased, sector_same}
-use Rattle.flash_flags.proofs.Laws.{boot-erased, update-erased, flags-erased, boot_written, status-flag}
+use Rattle.flash_flags.proofs.Laws.{boot_erased, update_erased, flags_erased, boot_written, status_flag}
 use Rattle.flash_flags.proofs.Shown.{shown_all_0}
 use Rattle.flash_flags.specs.SectorFlags.{leg_moves}
 use Rattle.flash_flags.proofs.Moves.{at_leg, shown_leg}
 use Rattle.exchange.proofs.Orders.{next_by_reads}
-use Rattle.exchange.proofs.Sound.{Sound, Crossed, Ready, put_shaped, put-boot-status, put-update-status, scratch, length-source, copied, advance, crossed, boot-trailer, boot-status, update-trailer}
+use Rattle.exchange.proofs.Sound.{Sound, Crossed, Ready, put_shaped, put_boot_status, put_update_status, scratch, length_source, copied, advance, crossed, boot_trailer_lem, boot_status_lem, update_trailer_lem}
 
 -- BOOT's and UPDATE's status while the closing operations run
 pub data Closing : Exchange → BootStatus → UpdateStatus → Type 0 where
@@ -124,28 +124,28 @@ last_step : {D : List ℕ → List ℕ → Type 0} (g : Geometry) (G : Limits g)
     → Crossed g old f → boot_status_at g f.boot ≡ gives b → update_status_at g f.update ≡ gives u → suc r ≡ closing_left c → Stepped D g old B f 0 r
 last_step {D} g G old x b₀ u₀ B f r b u erase_boot le s e₁ e₂ n =
     let next : Stage D g old B (perform g EraseBootTrailer f) 0 r
-    = at_last BootNew Updating write_testing (omega arith) (boot-trailer g G old f s) (boot-erased g G f.boot s.shaped.boot) e₂ (omega arith) refl in
+    = at_last BootNew Updating write_testing (omega arith) (boot_trailer_lem g G old f s) (boot_erased g G f.boot s.shaped.boot) e₂ (omega arith) refl in
     stepped EraseBootTrailer (next_last g x b u erase_boot 0 f e₁ e₂ (all_0 g G old f s)) next
     (λ y Y. either g old x b₀ u₀ B y.new f (perform g EraseBootTrailer f) 0 r next (at_last Success Updating erase_boot le s e₁ e₂ (omega arith) refl))
 last_step {D} g G old x b₀ u₀ B f r b u write_testing le s e₁ e₂ n =
     let next : Stage D g old B (perform g (WriteBootStatus Testing) f) 0 r
-    = at_last Testing Updating erase_update (omega arith) (boot-status g G old f s Testing) (boot_written g G f.boot s.shaped.boot Testing) e₂ (omega arith) refl in
+    = at_last Testing Updating erase_update (omega arith) (boot_status_lem g G old f s Testing) (boot_written g G f.boot s.shaped.boot Testing) e₂ (omega arith) refl in
     stepped (WriteBootStatus Testing) (next_last g x b u write_testing 0 f e₁ e₂ (all_0 g G old f s)) next
     (λ y Y. either g old x b₀ u₀ B y.new f (perform g (WriteBootStatus Testing) f) 0 r next (at_last BootNew Updating write_testing le s e₁ e₂ (omega arith) refl))
 last_step {D} g G old x b₀ u₀ B f r b u erase_update le s e₁ e₂ n =
     let next : Stage D g old B (perform g EraseUpdateTrailer f) 0 r
     = at_end Testing UpdateNew on_test (record {
       boot_is = s.boot_is;
-      update_is = update-trailer g G old f s;
+      update_is = update_trailer_lem g G old f s;
       last_bytes = sector_same g G f.update (erased g.size) s.shaped.update (length_erased g.size) (firmware g) (omega arith);
-      flags = flags-erased g G f.update s.shaped.update;
+      flags = flags_erased g G f.update s.shaped.update;
     })
     (put_shaped g G UpdateArea (firmware g) (erased g.size) f (omega arith) (length_erased g.size) s.shaped) e₁
-    (update-erased g G f.update s.shaped.update) (omega arith) refl in
+    (update_erased g G f.update s.shaped.update) (omega arith) refl in
     stepped EraseUpdateTrailer (next_last g x b u erase_update 0 f e₁ e₂ (all_0 g G old f s)) next
     (λ y Y. either g old x b₀ u₀ B y.new f (perform g EraseUpdateTrailer f) 0 r next (at_last Testing Updating erase_update le s e₁ e₂ (omega arith) refl))
 last_step {D} g G old x b₀ u₀ B f r b u write_success le s e₁ e₂ n =
-    let s' : Crossed g old (perform g (WriteBootStatus Success) f) = boot-status g G old f s Success in
+    let s' : Crossed g old (perform g (WriteBootStatus Success) f) = boot_status_lem g G old f s Success in
     let next : Stage D g old B (perform g (WriteBootStatus Success) f) 0 r
     = at_end Success UpdateNew fallen_back_lem (record {
       boot_is = s'.boot_is;
@@ -194,8 +194,8 @@ module _ {D : List ℕ → List ℕ → Type 0} (g : Geometry) (G : Limits g) (o
       → Stage D g old B (put g (target leg) i y f) p r
   within i leg p r f hi s d e₁ e₂ y Y hp ready n =
       in_leg_lem i leg hi hp (scratch g G old i leg hi f s y Y) (kept D g i leg y f d)
-      (put-boot-status g G (target leg) i y f Y s.shaped hi ∙ e₁)
-      (put-update-status g G (target leg) i y f Y s.shaped hi ∙ e₂)
+      (put_boot_status g G (target leg) i y f Y s.shaped hi ∙ e₁)
+      (put_update_status g G (target leg) i y f Y s.shaped hi ∙ e₂)
       ready n
 
   pub step : (f : Flash) (p r : ℕ) → Stage D g old B f p (suc r) → Stepped D g old B f p r
@@ -207,12 +207,12 @@ module _ {D : List ℕ → List ℕ → Type 0} (g : Geometry) (G : Limits g) (o
   step f (suc zero) r (in_leg_lem i leg hi hp s d e₁ e₂ ready n) =
       stepped (Copy leg (sector_number i))
       (next_leg g x b₀ u₀ B 1 i leg f e₁ e₂ (shown_leg g f.update i leg hi s.moves))
-      (within i leg 2 r f hi s d e₁ e₂ (get g (source leg) i f) (length-source g G old i leg hi f s) (omega arith) (λ k. copied g G old i leg hi f s) (omega arith))
+      (within i leg 2 r f hi s d e₁ e₂ (get g (source leg) i f) (length_source g G old i leg hi f s) (omega arith) (λ k. copied g G old i leg hi f s) (omega arith))
       (λ t T. (suc r + 1, omega arith, within i leg 0 (suc r + 1) f hi s d e₁ e₂ t.bytes T (omega arith) (λ k. absurd (omega arith)) (omega arith)))
   step f (suc (suc zero)) r (in_leg_lem i leg hi hp s d e₁ e₂ ready n) =
       let next : Stage D g old B (perform g (WriteFlag (sector_number i) (next_flag leg)) f) 0 r
       = turned i leg r (perform g (WriteFlag (sector_number i) (next_flag leg)) f) hi (advance g G old i leg hi f s (ready refl)) e₁
-      (ap update_status_of (status-flag g G f.update s.shaped.update i (next_flag leg) hi) ∙ e₂) n in
+      (ap update_status_of (status_flag g G f.update s.shaped.update i (next_flag leg) hi) ∙ e₂) n in
       stepped (WriteFlag (sector_number i) (next_flag leg))
       (next_leg g x b₀ u₀ B 2 i leg f e₁ e₂ (shown_leg g f.update i leg hi s.moves))
       next

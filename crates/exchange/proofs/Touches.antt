@@ -16,8 +16,8 @@ use Rattle.exchange.specs.declared.Operation.TheVariants.{Erase, Copy, WriteFlag
 use Rattle.exchange.specs.Operations.{source, get, put, perform}
 use Rattle.exchange.specs.LostPower.{Torn, perform_torn}
 use Rattle.exchange.specs.Touches.{Other, WritesSector, WritesLast, AllOrNothing, Touches}
-use Rattle.flash.proofs.Laws.{length_erased, sector_same, sector-other}
-use Rattle.flash_flags.proofs.Laws.{length-flag, byte_flag, half-flag, flag_same, length-status, byte-status, status-same}
+use Rattle.flash.proofs.Laws.{length_erased, sector_same, sector_other}
+use Rattle.flash_flags.proofs.Laws.{length_flag, byte_flag, half_flag, flag_same, length_status, byte_status, status_same}
 use Rattle.exchange.proofs.Sound.{put_shaped, sized}
 
 -- a sector written by `put`
@@ -29,12 +29,12 @@ module _ (g : Geometry) (f : Flash) (s : Shaped g f) (i : ℕ) (hi : i ≤ firmw
 
   others : (d a : Area) (j : ℕ) → Other d i a j → get g a j (put g d i x f) ≡ get g a j f
   others Boot Boot j (inl h) = absurd (h refl)
-  others Boot Boot j (inr h) = sector-other g s.limits f.boot x s.boot X i hi j h.1
+  others Boot Boot j (inr h) = sector_other g s.limits f.boot x s.boot X i hi j h.1
   others Boot Update j h = refl
   others Boot Swap j h = refl
   others Update Boot j h = refl
   others Update Update j (inl h) = absurd (h refl)
-  others Update Update j (inr h) = sector-other g s.limits f.update x s.update X i hi j h.1
+  others Update Update j (inr h) = sector_other g s.limits f.update x s.update X i hi j h.1
   others Update Swap j h = refl
   others Swap Boot j h = refl
   others Swap Update j h = refl
@@ -48,9 +48,9 @@ module _ (g : Geometry) (f : Flash) (s : Shaped g f) (i : ℕ) (hi : i ≤ firmw
 last : (g : Geometry) (f : Flash) → Shaped g f → (l : List ℕ) → length l ≡ partition_size g → (b : ℕ) → WritesLast g l b (set_status_byte g b l)
 unfolding status_byte
 last g f s l e b = record {
-  there = status-same g s.limits l e b;
-  bytes = λ p h. byte-status g s.limits l e b p 0 h;
-  extent = length-status g s.limits l e b;
+  there = status_same g s.limits l e b;
+  bytes = λ p h. byte_status g s.limits l e b p 0 h;
+  extent = length_status g s.limits l e b;
 }
 
 new_stands : (g : Geometry) (f : Flash) (t : Torn) (o : Operation) → AllOrNothing o → t.new ≡ true → perform_torn g t o f ≡ perform g o f
@@ -79,9 +79,9 @@ touches = record {
   update_trailer = λ g f s. writes g f s (firmware g) (omega arith) (erased g.size) (length_erased g.size) Update;
   flag = λ g f i v s hi. record {
     there = flag_same g s.limits f.update s.update i v hi;
-    halves = half-flag g s.limits f.update s.update i v hi;
+    halves = half_flag g s.limits f.update s.update i v hi;
     bytes = λ p h. byte_flag g s.limits f.update s.update i v hi p 0 h;
-    extent = length-flag g s.limits f.update s.update i v hi;
+    extent = length_flag g s.limits f.update s.update i v hi;
     boot = refl;
     swap = refl;
   };

@@ -1,10 +1,12 @@
 // The exchange of BOOT and UPDATE: its single operations, its jobs, and in specs/ the rules of document 01 that order them.
+#![tactic(auto)]
+
 use flash::SectorNumber;
 use flash_flags::{Flag, Leg};
 use flash_status::{BootStatus, UpdateStatus};
 
 // The three lent buffers.
-#[derive(Drop)]
+#[derive(Clone, Copy)]
 pub enum Area {
     Boot,
     Update,
@@ -12,7 +14,7 @@ pub enum Area {
 }
 
 // A single operation on the flash. A copy is named by its leg, which says from where to where.
-#[derive(Drop)]
+#[derive(Clone, Copy)]
 pub enum Operation {
     Erase(Area, SectorNumber),
     Copy(Leg, SectorNumber),
@@ -24,14 +26,14 @@ pub enum Operation {
 }
 
 // The operation that is ordered next, if any.
-#[derive(Drop)]
+#[derive(Clone, Copy)]
 pub enum Next {
     Do(Operation),
     Nothing,
 }
 
 // The work of a power-up that changes the flash. Document 01 calls the last one turning down.
-#[derive(Drop)]
+#[derive(Clone, Copy)]
 pub enum Job {
     Update,
     Fallback,

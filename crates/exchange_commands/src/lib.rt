@@ -1,4 +1,6 @@
 // Arm and confirm on three lent buffers: BOOT, UPDATE and SWAP.
+#![tactic(auto)]
+
 ghost use Rattle.std.specs.Prelude.{◌≡◌};
 ghost use Rattle.numbers.specs.Answer.{gives};
 ghost use Rattle.flash.specs.Sizes.{geometry, geometry_answer};
@@ -16,7 +18,7 @@ use flash_status::{BootStatus, Statuses, UpdateStatus};
 use numbers::CommandRefusal;
 
 // What arm and confirm answer: done, with the number of operations, or refused.
-#[derive(Drop)]
+#[derive(Clone, Copy)]
 pub enum CommandAnswer {
     Done(u64),
     Refused(CommandRefusal),
@@ -25,7 +27,7 @@ pub enum CommandAnswer {
 // ---- the commands
 
 // What can be commanded. The functions below say of each its checks and its operations.
-#[derive(Drop)]
+#[derive(Clone, Copy)]
 pub enum CommandKind {
     Arm,
     Confirm,
@@ -34,7 +36,7 @@ pub enum CommandKind {
 // ---- the checks before the operations
 
 // Whether a command may do its operations.
-#[derive(Drop)]
+#[derive(Clone, Copy)]
 pub enum Permit {
     Granted,
     Denied(CommandRefusal),

@@ -16,7 +16,7 @@ use Rattle.flash_flags.specs.declared.Leg.{Leg}
 use Rattle.flash_flags.specs.declared.Leg.TheVariants.{UpdateToSwap, BootToUpdate, SwapToBoot}
 use Rattle.flash_flags.specs.SectorFlags.{moved, leg_moves, flag_at, set_flag, flags_at}
 use Rattle.flash_flags.specs.Front.{front, by_front, WellFormed}
-use Rattle.flash_flags.proofs.Laws.{flags-sector, flags-erased, flags-status}
+use Rattle.flash_flags.proofs.Laws.{flags_sector, flags_erased, flags_status}
 use Rattle.flash_flags.proofs.Front.{sector_number_lem, front_within, front_tells, writes_front, front_leg, following_sector, formed_on, front_on}
 use Rattle.exchange.specs.declared.Area.TheVariants.{Boot, Update, Swap}
 use Rattle.exchange.specs.declared.Operation.{Operation}
@@ -46,7 +46,7 @@ module _ (g : Geometry) (f : Flash) (s : Shaped g f) (h : WellFormed g f.update)
   sector : (i : ℕ) (x : List ℕ) → i < firmware g → length x ≡ g.size → (o : Operation) → front_after o (front g f.update) ≡ front g f.update
       → Follows g f.update (write_sector g i x f.update) o
   sector i x hi X o e = record {
-    formed = λ q. h (sym (flags-sector g s.limits f.update x s.update X i hi) ∙ q);
+    formed = λ q. h (sym (flags_sector g s.limits f.update x s.update X i hi) ∙ q);
     scanned = (writes_front g f.update (update_partition g f s)).sector i x hi X ∙ sym e;
   }
 
@@ -67,12 +67,12 @@ module _ (g : Geometry) (f : Flash) (s : Shaped g f) (h : WellFormed g f.update)
       }
   follows EraseBootTrailer k = record { formed = h; scanned = refl }
   follows EraseUpdateTrailer k = record {
-    formed = λ q. let z : ◌≡◌ {A = ℕ} 0 1 = cc (flags-erased g s.limits f.update s.update) in omega arith;
+    formed = λ q. let z : ◌≡◌ {A = ℕ} 0 1 = cc (flags_erased g s.limits f.update s.update) in omega arith;
     scanned = (writes_front g f.update (update_partition g f s)).trailer;
   }
   follows (WriteBootStatus v) k = record { formed = h; scanned = refl }
   follows (WriteUpdateStatus v) k = record {
-    formed = λ q. h (sym (flags-status g s.limits f.update s.update (update_byte v)) ∙ q);
+    formed = λ q. h (sym (flags_status g s.limits f.update s.update (update_byte v)) ∙ q);
     scanned = (writes_front g f.update (update_partition g f s)).status (update_byte v);
   }
 

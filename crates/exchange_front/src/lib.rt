@@ -1,4 +1,6 @@
 // Document 02, "Keep the front": what is carried from operation to operation, and the operation that is next by it.
+#![tactic(auto)]
+
 ghost use Rattle.std.specs.Prelude.{◌≡◌, ◌≤◌, ◌<◌};
 ghost use Rattle.flash.specs.Sizes.{firmware, most_sectors};
 ghost use Rattle.flash.specs.Sectors.{Partition, sector_number};
@@ -12,7 +14,7 @@ use flash_status::Statuses;
 
 // How far the work of a power-up has come, by value from operation to operation: the front, which is the first firmware sector whose flag
 // is not 0, or m where all are 0; the phase within its leg; and the budget left.
-#[derive(Drop)]
+#[derive(Clone, Copy)]
 pub struct Progress {
     pub front: SectorNumber,
     pub phase: u8,

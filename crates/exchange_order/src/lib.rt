@@ -1,4 +1,6 @@
 // The operation that is next, by the two statuses and the flags.
+#![tactic(auto)]
+
 ghost use Rattle.std.specs.Prelude.{◌≡◌};
 ghost use Rattle.exchange.specs.Operations.{target, next_flag, leg_operation, phase_after};
 ghost use Rattle.exchange.specs.Order.{closing, exchange_next, ordered};

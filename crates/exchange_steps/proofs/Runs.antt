@@ -43,13 +43,13 @@ module _ (job : Job) (g : Geometry) (budget : ℕ) where
       (ap (λ (x : Progress). run_left job g budget x f) e ∙ ap (λ (k : ℕ). record { count = k; phase = w.phase; flash = w.flash }) z, rw e (omega arith))
 
   module _ (at : Progress) (f f' : Flash) (r : StepAnswer) (s : stepped r f' ≡ step job g at.phase f) where
-    pub next-is : r.next ≡ next_operation job g at.phase f
+    pub next_is : r.next ≡ next_operation job g at.phase f
     unfolding step
-    next-is = ap (λ (x : Step). x.next) s
+    next_is = ap (λ (x : Step). x.next) s
 
     pub flash_is : f' ≡ perform_next g r.next f
     unfolding step
-    flash_is = ap (λ (x : Step). x.flash) s ∙ ap (λ (m : Next). perform_next g m f) (sym next-is)
+    flash_is = ap (λ (x : Step). x.flash) s ∙ ap (λ (m : Next). perform_next g m f) (sym next_is)
 
     -- a turn
     pub run_on : (o : Operation) → r.next ≡ Do o → r.progress ≡ progress_scanned g f'.update r.next at → 0 < at.left → at.left ≤ budget
@@ -64,27 +64,27 @@ module _ (job : Job) (g : Geometry) (budget : ℕ) where
         ∙ ap (λ (z : Flash). run_left job g budget (progress_scanned g f'.update (Do o) at) z) x
         ∙ ap (λ (y : ℕ). record { count = y; phase = w.phase; flash = w.flash }) c
         ∙ ap (λ (y : Run). record { count = budget - at.left + y.count; phase = y.phase; flash = y.flash })
-        (sym (ap (λ (y : ℕ). run job g y at.phase f) k ∙ run_some job g (at.left - 1) at.phase f o (sym next-is ∙ e)))
+        (sym (ap (λ (y : ℕ). run job g y at.phase f) k ∙ run_some job g (at.left - 1) at.phase f o (sym next_is ∙ e)))
 
-    pub left-on : (o : Operation) → r.next ≡ Do o → r.progress ≡ progress_scanned g f'.update r.next at → r.progress.left ≡ at.left - 1
-    left-on o e q = ap (λ (x : Progress). x.left) (q ∙ ap (λ (t : Next). progress_scanned g f'.update t at) e)
+    pub left_on : (o : Operation) → r.next ≡ Do o → r.progress ≡ progress_scanned g f'.update r.next at → r.progress.left ≡ at.left - 1
+    left_on o e q = ap (λ (x : Progress). x.left) (q ∙ ap (λ (t : Next). progress_scanned g f'.update t at) e)
 
-    pub current-on : (o : Operation) → r.next ≡ Do o → r.progress ≡ progress_scanned g f'.update r.next at → Shaped g f → Current g f.update at → Current g f'.update r.progress
+    pub current_on : (o : Operation) → r.next ≡ Do o → r.progress ≡ progress_scanned g f'.update r.next at → Shaped g f → Current g f.update at → Current g f'.update r.progress
     unfolding step
-    current-on o e q S k = record {
+    current_on o e q S k = record {
       formed = rw (ap (λ (x : Step). x.flash) s) (steps_keep_form job g at.phase f S k.formed);
       scanned = ap (λ (x : Progress). x.front) (q ∙ ap (λ (t : Next). progress_scanned g f'.update t at) e);
     }
 
     -- nothing is next
-    pub run-over : r.next ≡ Nothing → 0 < at.left → (ran budget at f' ≡ run_left job g budget at f) × (f' ≡ f)
-    run-over e h =
+    pub run_over : r.next ≡ Nothing → 0 < at.left → (ran budget at f' ≡ run_left job g budget at f) × (f' ≡ f)
+    run_over e h =
         let k : at.left ≡ suc (at.left - 1) = omega arith in
         let x : f' ≡ f = flash_is ∙ ap (λ (t : Next). perform_next g t f) e in
         let c : budget - at.left ≡ budget - at.left + 0 = omega arith in (
           ap₂ (λ (y : ℕ) (z : Flash). record { count = y; phase = at.phase; flash = z }) c x
               ∙ ap (λ (y : Run). record { count = budget - at.left + y.count; phase = y.phase; flash = y.flash })
-              (sym (ap (λ (y : ℕ). run job g y at.phase f) k ∙ run_none job g (suc (at.left - 1)) at.phase f (sym next-is ∙ e))),
+              (sym (ap (λ (y : ℕ). run job g y at.phase f) k ∙ run_none job g (suc (at.left - 1)) at.phase f (sym next_is ∙ e))),
           x,
         )
 

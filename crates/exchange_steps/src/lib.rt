@@ -1,4 +1,6 @@
 // The single step: the operation that document 01 orders next, found from the front that is carried along, and done.
+#![tactic(auto)]
+
 ghost use Rattle.std.specs.Prelude.{◌≡◌, ◌<◌, ◌≤◌};
 ghost use Rattle.flash.specs.Sizes.{firmware};
 ghost use Rattle.flash.specs.Sectors.{erased};
@@ -75,7 +77,7 @@ pub fn do_operation(g: Geometry, op: Operation, boot: &mut [u8], update: &mut [u
 }
 
 // The operation that a step did, if one was next, and what it carries on.
-#[derive(Drop)]
+#[derive(Clone, Copy)]
 pub struct StepAnswer {
     pub next: Next,
     pub progress: Progress,

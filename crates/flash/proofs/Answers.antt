@@ -45,11 +45,11 @@ module _ (n s : ℕ) (l : List ℕ) where
   partition_outside e = sym ((which_partitions n s l).refusal.1 (λ p. (which_are_taken n s).refusal.0 (sym e) p.0))
 
   module _ (g : Geometry) (e : gives g ≡ geometry_of n s) where
-    pub partition-unequal : length l ≢ partition_size g → geometry_answer Outside ≡ partition_of n s l
-    partition-unequal h = sym ((which_partitions n s l).refusal.1 (λ p. h (p.1 ∙ ap partition_size (sym (rules_given n s g e).is))))
+    pub partition_unequal : length l ≢ partition_size g → geometry_answer Outside ≡ partition_of n s l
+    partition_unequal h = sym ((which_partitions n s l).refusal.1 (λ p. h (p.1 ∙ ap partition_size (sym (rules_given n s g e).is))))
 
-    pub partition-equal : length l ≡ partition_size g → gives g ≡ partition_of n s l
-    partition-equal h =
+    pub partition_equal : length l ≡ partition_size g → gives g ≡ partition_of n s l
+    partition_equal h =
         let t = rules_given n s g e in
         ap gives t.is ∙ sym ((which_partitions n s l).taken.1 (rules_hold (geometry n s) t.holds, h ∙ ap partition_size t.is))
 
@@ -66,25 +66,25 @@ module _ (n s : ℕ) (b u w : List ℕ) where
   flash_outside e = sym ((which_flashes n s (flash b u w)).refusal.1 (λ p. (which_partitions n s b).refusal.0 (sym e) (p.rules, p.boot)))
 
   module _ (g : Geometry) (e : gives g ≡ partition_of n s b) where
-    is-given : Given (partition_fits (geometry n s) b) n s g
+    is_given : Given (partition_fits (geometry n s) b) n s g
     unfolding partition_of
-    is-given = given (partition_fits (geometry n s) b) n s g e
+    is_given = given (partition_fits (geometry n s) b) n s g e
 
-    pub update-unequal : length u ≢ length b → geometry_answer Outside ≡ flash_of n s (flash b u w)
-    update-unequal h = sym ((which_flashes n s (flash b u w)).refusal.1 (λ p. h (p.update ∙ sym p.boot)))
+    pub update_unequal : length u ≢ length b → geometry_answer Outside ≡ flash_of n s (flash b u w)
+    update_unequal h = sym ((which_flashes n s (flash b u w)).refusal.1 (λ p. h (p.update ∙ sym p.boot)))
 
-    pub swap-unequal : length w ≢ g.size → geometry_answer Outside ≡ flash_of n s (flash b u w)
-    swap-unequal h = sym ((which_flashes n s (flash b u w)).refusal.1 (λ p. h (p.swap ∙ ap (λ (y : Geometry). y.size) (sym is-given.is))))
+    pub swap_unequal : length w ≢ g.size → geometry_answer Outside ≡ flash_of n s (flash b u w)
+    swap_unequal h = sym ((which_flashes n s (flash b u w)).refusal.1 (λ p. h (p.swap ∙ ap (λ (y : Geometry). y.size) (sym is_given.is))))
 
-    pub flash-equal : length u ≡ length b → length w ≡ g.size → gives g ≡ flash_of n s (flash b u w)
-    flash-equal h k =
-        let P = partition_of_lem (geometry n s) b is-given.holds in
-        ap gives is-given.is
+    pub flash_equal : length u ≡ length b → length w ≡ g.size → gives g ≡ flash_of n s (flash b u w)
+    flash_equal h k =
+        let P = partition_of_lem (geometry n s) b is_given.holds in
+        ap gives is_given.is
         ∙ sym ((which_flashes n s (flash b u w)).taken.1 (record {
           rules = limits_rules (geometry n s) P.limits;
           boot = P.whole;
           update = h ∙ P.whole;
-          swap = k ∙ ap (λ (y : Geometry). y.size) is-given.is;
+          swap = k ∙ ap (λ (y : Geometry). y.size) is_given.is;
         }))
 
 pub flash_given_lem : (n s : ℕ) (f : Flash) (g : Geometry) → gives g ≡ flash_of n s f → Shaped g f

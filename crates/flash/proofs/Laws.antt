@@ -24,22 +24,22 @@ module _ (g : Geometry) (G : Limits g) where
 
   -- ---- a sector is written: erased, copied to, or torn
   module _ (l x : List ℕ) (L : length l ≡ partition_size g) (X : length x ≡ g.size) (i : ℕ) (hi : i ≤ firmware g) where
-    pub length-sector : length (write_sector g i x l) ≡ length l
-    length-sector = length_patch (i * g.size) x l (sector_in i x l hi L X)
+    pub length_sector : length (write_sector g i x l) ≡ length l
+    length_sector = length_patch (i * g.size) x l (sector_in i x l hi L X)
 
     pub sector_same : sector_of g i (write_sector g i x l) ≡ x
     sector_same = rw X at (part_patch (i * g.size) x l (sector_in i x l hi L X))
 
-    pub sector-other : (j : ℕ) → j ≢ i → sector_of g j (write_sector g i x l) ≡ sector_of g j l
-    sector-other j h = by_order (dec_lt j i)
+    pub sector_other : (j : ℕ) → j ≢ i → sector_of g j (write_sector g i x l) ≡ sector_of g j l
+    sector_other j h = by_order (dec_lt j i)
       where
         by_order : Dec (j < i) → sector_of g j (write_sector g i x l) ≡ sector_of g j l
         by_order (yes a) = part_patch_below (i * g.size) x l (sector_in i x l hi L X) (j * g.size) g.size (sector_end g.size j i a)
         by_order (no a) = part_patch_above (i * g.size) x l (sector_in i x l hi L X) (j * g.size) g.size (omega (arith, X, sector_end g.size i j (omega arith)))
 
     -- every byte outside the sector stays
-    pub byte-below : (p d : ℕ) → p < i * g.size → get_or (write_sector g i x l) p d ≡ get_or l p d
-    byte-below p d h = get_d_patch_below (i * g.size) x l (sector_in i x l hi L X) p d h
+    pub byte_below : (p d : ℕ) → p < i * g.size → get_or (write_sector g i x l) p d ≡ get_or l p d
+    byte_below p d h = get_d_patch_below (i * g.size) x l (sector_in i x l hi L X) p d h
 
     pub byte_above : (p d : ℕ) → i * g.size + g.size ≤ p → get_or (write_sector g i x l) p d ≡ get_or l p d
     byte_above p d h = get_d_patch_above (i * g.size) x l (sector_in i x l hi L X) p d (omega (arith, X))
@@ -50,9 +50,9 @@ module _ (g : Geometry) (G : Limits g) where
 
   module _ (l : List ℕ) (L : length l ≡ partition_size g) where
     -- an erased one holds FF only
-    pub trailer-byte : (p : ℕ) → firmware g * g.size ≤ p → p < partition_size g → get_or (write_sector g (firmware g) (erased g.size) l) p 0 ≡ 0xFF
+    pub trailer_byte : (p : ℕ) → firmware g * g.size ≤ p → p < partition_size g → get_or (write_sector g (firmware g) (erased g.size) l) p 0 ≡ 0xFF
     unfolding erased
-    trailer-byte p h k =
+    trailer_byte p h k =
         let q : p - firmware g * g.size < g.size = omega (arith, size_split g G) in
         let e : p ≡ firmware g * g.size + (p - firmware g * g.size) = omega arith in
         ap (λ (n : ℕ). get_or (write_sector g (firmware g) (erased g.size) l) n 0) e

@@ -94,8 +94,8 @@ trailers_need s = (refl, refl)
 
 pub only_one_too_long : OnlyOneTooLong
 unfolding firmware
-only_one_too_long n s c = (λ out. by-trailer out (dec_lt s (trailer_length (geometry n s))), λ e w. omega (arith, e.0, e.1, w.trailer))
+only_one_too_long n s c = (λ out. by_trailer out (dec_lt s (trailer_length (geometry n s))), λ e w. omega (arith, e.0, e.1, w.trailer))
   where
-    by-trailer : (InRules n s → ⊥) → Dec (s < trailer_length (geometry n s)) → (n ≡ 512) × (s ≡ 256)
-    by-trailer out (yes t) = omega (arith, t, c.unit, c.small, c.many, c.few)
-    by-trailer out (no t) = absurd (out (record { counts = c; trailer = omega arith }))
+    by_trailer : (InRules n s → ⊥) → Dec (s < trailer_length (geometry n s)) → (n ≡ 512) × (s ≡ 256)
+    by_trailer out (yes t) = omega (arith, t, c.unit, c.small, c.many, c.few)
+    by_trailer out (no t) = absurd (out (record { counts = c; trailer = omega arith }))

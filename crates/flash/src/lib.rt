@@ -1,27 +1,29 @@
 // The flash of document 01: three lent buffers, BOOT, UPDATE and SWAP, with their geometry and sectors.
+#![tactic(auto)]
+
 ghost use Rattle.std.specs.Prelude.{◌≡◌, ◌<◌, length};
 ghost use Rattle.flash.specs.Sizes.{firmware, partition_size, Limits, geometry_answer, geometry_of};
 ghost use Rattle.flash.specs.Sectors.{SectorAt};
 ghost use Rattle.flash.specs.Buffers.{lent, partition_of, flash_of};
 
 // The number of a sector in its partition, from 0.
-#[derive(Drop)]
+#[derive(Clone, Copy)]
 pub struct SectorNumber(pub usize);
 
 // A place in a partition. `offset_of` makes it from a sector number.
-#[derive(Drop)]
+#[derive(Clone, Copy)]
 pub struct ByteOffset(pub usize);
 
 // A partition has `sectors` sectors of `size` bytes, document 01's n and S. The last is its trailer sector: it holds the status byte
 // and, in UPDATE, the sector flags. The others are its firmware sectors.
-#[derive(Drop)]
+#[derive(Clone, Copy)]
 pub struct Geometry {
     pub sectors: usize,
     pub size: usize,
 }
 
 // What the check of a geometry, or of buffers for it, answers.
-#[derive(Drop)]
+#[derive(Clone, Copy)]
 pub enum GeometryAnswer {
     Fits(Geometry),
     Outside,

@@ -1,5 +1,7 @@
 // Prints what the flash answers in document 01's marked cases 11 and 12, the latter as document 02 has it, and around them, and what flag
 // bytes show.
+#![tactic(auto)]
+
 use flash::{Geometry, GeometryAnswer};
 use flash_flags::{Flags, Leg};
 use flash_sectors::CopyAnswer;

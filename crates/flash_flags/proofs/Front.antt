@@ -26,7 +26,7 @@ use Rattle.flash_flags.specs.SectorFlags.{moved, leg_flag, leg_moves, flag_of, f
 use Rattle.flash_flags.specs.Front.{is0, first_not0, front, by_own_flag, by_front, untouched_after, WellFormed, IsFront, FrontExactly, ShowsFront, FrontTells, FrontWritten, WritesFront, FrontCases}
 use Rattle.flash_flags.proofs.Shown.{all_f_from, each_from, F-at-0, shown_all_0, shown_at, each_F, each_0, each_at}
 use Rattle.flash_flags.proofs.Moves.{moved_none, AfterMoves, at_leg, shown_leg, shown_every, moves_leg, moves_on_lem}
-use Rattle.flash_flags.proofs.Laws.{flag-sector, flags-erased, flag_same, flag-other, flag-status}
+use Rattle.flash_flags.proofs.Laws.{flag_sector, flags_erased, flag_same, flag_other, flag_status}
 
 -- ---- its number, where it is handed over
 
@@ -159,18 +159,18 @@ module _ (g : Geometry) (u : List ℕ) where
 
   -- the flags after sector i, the front, are F only: its own flag decides
   module _ (G : Limits g) (i : ℕ) (e : front g u ≡ i) (r : untouched_after g u i ≡ true) where
-    front-here : IsFront g u i
-    front-here = subst (IsFront g u) e (is_front g u)
+    front_here : IsFront g u i
+    front_here = subst (IsFront g u) e (is_front g u)
 
-    shown-end : i ≡ firmware g → flags_at g u ≡ All0
-    shown-end q = shown_all_0 g u (some_firmware g G) (λ j h. front-here.before j (omega arith))
+    shown_end : i ≡ firmware g → flags_at g u ≡ All0
+    shown_end q = shown_all_0 g u (some_firmware g G) (λ j h. front_here.before j (omega arith))
 
     -- by the flag of a firmware sector
-    shown-front : i < firmware g → (leg : Leg) → flag_at g u i ≡ Known (leg_flag leg) → (i ≡ 0 → leg ≢ UpdateToSwap) → flags_at g u ≡ At (sector_number i) leg
-    shown-front h leg q n = shown_at g u i leg h q front-here.before (after_each i r) n
+    shown_front : i < firmware g → (leg : Leg) → flag_at g u i ≡ Known (leg_flag leg) → (i ≡ 0 → leg ≢ UpdateToSwap) → flags_at g u ≡ At (sector_number i) leg
+    shown_front h leg q n = shown_at g u i leg h q front_here.before (after_each i r) n
 
-    shown-unknown : i < firmware g → flag_at g u i ≡ Unknown → flags_at g u ≡ Malformed
-    shown-unknown h q = by (flags_at g u) refl
+    shown_unknown : i < firmware g → flag_at g u i ≡ Unknown → flags_at g u ≡ Malformed
+    shown_unknown h q = by (flags_at g u) refl
       where
         no_flag : (w : Flag) → flag_at g u i ≢ Known w
         no_flag w s = let z : ◌≡◌ {A = ℕ} 0 1 = cc (sym q ∙ s) in omega arith
@@ -181,32 +181,32 @@ module _ (g : Geometry) (u : List ℕ) where
         by (At p leg) s = absurd (no_flag (leg_flag leg) (ap (flag_at g u) (sym e ∙ front_at p leg s) ∙ (each_at g u p leg s).here))
         by All0 s = absurd (no_flag Exchanged (each_0 g u s i h))
 
-    shown-own : i < firmware g → flags_at g u ≡ by_own_flag i (flag_at g u i)
-    shown-own h = by (flag_at g u i) refl (ℕ_discrete i 0)
+    shown_own : i < firmware g → flags_at g u ≡ by_own_flag i (flag_at g u i)
+    shown_own h = by (flag_at g u i) refl (ℕ_discrete i 0)
       where
         by : (v : FlagRead) → flag_at g u i ≡ v → Dec (i ≡ 0) → flags_at g u ≡ by_own_flag i v
         by (Known Untouched) q (yes n) = rw (eq-eqb i 0 n) (F-at-0 g u i n q (after_each i r))
-        by (Known Untouched) q (no n) = rw (ne_eqb i 0 n) (shown-front h UpdateToSwap q (λ z. absurd (n z)))
-        by (Known Saved) q d = shown-front h BootToUpdate q (λ n z. let x : ◌≡◌ {A = ℕ} 0 1 = cc in omega arith)
-        by (Known Moved) q d = shown-front h SwapToBoot q (λ n z. let x : ◌≡◌ {A = ℕ} 0 1 = cc in omega arith)
-        by (Known Exchanged) q d = absurd (front-here.here h q)
-        by Unknown q d = shown-unknown h q
+        by (Known Untouched) q (no n) = rw (ne_eqb i 0 n) (shown_front h UpdateToSwap q (λ z. absurd (n z)))
+        by (Known Saved) q d = shown_front h BootToUpdate q (λ n z. let x : ◌≡◌ {A = ℕ} 0 1 = cc in omega arith)
+        by (Known Moved) q d = shown_front h SwapToBoot q (λ n z. let x : ◌≡◌ {A = ℕ} 0 1 = cc in omega arith)
+        by (Known Exchanged) q d = absurd (front_here.here h q)
+        by Unknown q d = shown_unknown h q
 
-    shown-by-front : flags_at g u ≡ by_front (firmware g) i (flag_at g u i)
-    shown-by-front = by (ℕ_discrete i (firmware g))
+    shown_by_front : flags_at g u ≡ by_front (firmware g) i (flag_at g u i)
+    shown_by_front = by (ℕ_discrete i (firmware g))
       where
         by : Dec (i ≡ firmware g) → flags_at g u ≡ by_front (firmware g) i (flag_at g u i)
-        by (yes q) = rw (eq-eqb i (firmware g) q) (shown-end q)
-        by (no q) = rw (ne_eqb i (firmware g) q) (shown-own (front_below g u i e q))
+        by (yes q) = rw (eq-eqb i (firmware g) q) (shown_end q)
+        by (no q) = rw (ne_eqb i (firmware g) q) (shown_own (front_below g u i e q))
 
 pub front_tells : FrontTells
 front_tells g u G = record {
   told = by (untouched_after g u (front g u)) refl;
-  alone = λ h. shown-by-front g u G (front g u) refl (formed_after g u h);
+  alone = λ h. shown_by_front g u G (front g u) refl (formed_after g u h);
 }
   where
     by : (b : Bool) → untouched_after g u (front g u) ≡ b → flags_at g u ≡ cond b (by_front (firmware g) (front g u) (flag_at g u (front g u))) Malformed
-    by true e = shown-by-front g u G (front g u) refl e
+    by true e = shown_by_front g u G (front g u) refl e
     by false e = after_not g u e
 
 -- what is read of the front i and of the flags after it
@@ -237,12 +237,12 @@ front_same g u u' h =
 
 module _ (g : Geometry) (G : Limits g) (u : List ℕ) (U : length u ≡ partition_size g) where
   front_erased : front g (write_sector g (firmware g) (erased g.size) u) ≡ 0
-  front_erased = front_F g (write_sector g (firmware g) (erased g.size) u) (flags-erased g G u U)
+  front_erased = front_F g (write_sector g (firmware g) (erased g.size) u) (flags_erased g G u U)
 
   -- a flag is written at the front
   module _ (h : front g u < firmware g) where
     others : (v : Flag) (j : ℕ) → j < front g u → flag_at g (set_flag g (front g u) v u) j ≡ Known Exchanged
-    others v j a = flag-other g G u U (front g u) v h j (omega arith) (λ e. omega arith) ∙ (is_front g u).before j a
+    others v j a = flag_other g G u U (front g u) v h j (omega arith) (λ e. omega arith) ∙ (is_front g u).before j a
 
     front_kept : (v : Flag) → v ≢ Exchanged → front g (set_flag g (front g u) v u) ≡ front g u
     front_kept v n =
@@ -255,12 +255,12 @@ module _ (g : Geometry) (G : Limits g) (u : List ℕ) (U : length u ≡ partitio
         known : Known v ≡ Known Exchanged → v ≡ Exchanged
         known e = cc
 
-    front-moved : (suc (front g u) ≡ firmware g) ⊎ (flag_at g u (suc (front g u)) ≢ Known Exchanged) → front g (set_flag g (front g u) Exchanged u) ≡ suc (front g u)
-    front-moved d =
+    front_moved : (suc (front g u) ≡ firmware g) ⊎ (flag_at g u (suc (front g u)) ≢ Known Exchanged) → front g (set_flag g (front g u) Exchanged u) ≡ suc (front g u)
+    front_moved d =
         front_is g (set_flag g (front g u) Exchanged u) (suc (front g u)) (record {
           within = omega arith;
           before = λ j a. by j (omega arith) (ℕ_discrete j (front g u));
-          here = λ a q. next d a (sym (flag-other g G u U (front g u) Exchanged h (suc (front g u)) a (λ e. omega arith)) ∙ q);
+          here = λ a q. next d a (sym (flag_other g G u U (front g u) Exchanged h (suc (front g u)) a (λ e. omega arith)) ∙ q);
         })
       where
         by : (j : ℕ) → j ≤ front g u → Dec (j ≡ front g u) → flag_at g (set_flag g (front g u) Exchanged u) j ≡ Known Exchanged
@@ -275,10 +275,10 @@ module _ (g : Geometry) (G : Limits g) (u : List ℕ) (U : length u ≡ partitio
 pub writes_front : WritesFront
 writes_front g u P = record {
   trailer = front_erased g P.limits u P.whole;
-  sector = λ i x hi X. front_same g (write_sector g i x u) u (flag-sector g P.limits u x P.whole X i hi);
-  status = λ b. front_same g (set_status_byte g b u) u (flag-status g P.limits u P.whole b);
+  sector = λ i x hi X. front_same g (write_sector g i x u) u (flag_sector g P.limits u x P.whole X i hi);
+  status = λ b. front_same g (set_status_byte g b u) u (flag_status g P.limits u P.whole b);
   flag = λ v n h. front_kept g P.limits u P.whole h v n;
-  flag0 = λ h d. front-moved g P.limits u P.whole h d;
+  flag0 = λ h d. front_moved g P.limits u P.whole h d;
 }
 
 -- ---- from leg to leg
@@ -354,12 +354,12 @@ module _ (g : Geometry) (u : List ℕ) (P : Partition g u) (i : ℕ) (hi : i < f
       W : FrontWritten g u
       W = writes_front g u P
 
-      not-0 : (v : Flag) → Known v ≢ Known Exchanged → v ≢ Exchanged
-      not-0 v h q = h (ap Known q)
+      not_0 : (v : Flag) → Known v ≢ Known Exchanged → v ≢ Exchanged
+      not_0 v h q = h (ap Known q)
 
       by : (leg : Leg) → flags_at g u ≡ at_leg i leg → front g u ≡ i → front g (set_flag g i (moved (suc (leg_moves leg))) u) ≡ following_sector leg i
-      by UpdateToSwap e q = rw q at (W.flag Saved (not-0 Saved (leg_not_0 BootToUpdate)) (omega arith))
-      by BootToUpdate e q = rw q at (W.flag Moved (not-0 Moved (leg_not_0 SwapToBoot)) (omega arith))
+      by UpdateToSwap e q = rw q at (W.flag Saved (not_0 Saved (leg_not_0 BootToUpdate)) (omega arith))
+      by BootToUpdate e q = rw q at (W.flag Moved (not_0 Moved (leg_not_0 SwapToBoot)) (omega arith))
       by SwapToBoot e q = rw q at (W.flag0 (omega arith) (rw (sym q) at (next_not_0 e)))
 
 -- ---- cases

@@ -15,7 +15,7 @@ use Rattle.flash.specs.Sizes.{firmware, partition_size, Limits}
 use Rattle.flash.specs.Sectors.{sector_of, write_sector, erased}
 use Rattle.flash.proofs.Checked.{some_firmware, size_split, sector_end}
 use Rattle.flash.proofs.Bytes.{part_set}
-use Rattle.flash.proofs.Laws.{byte_above, trailer-byte}
+use Rattle.flash.proofs.Laws.{byte_above, trailer_byte}
 use Rattle.flash_status.specs.declared.BootStatus.{BootStatus}
 use Rattle.flash_status.specs.declared.BootStatus.TheVariants.{New as BootNew, Testing, Success}
 use Rattle.flash_status.specs.declared.UpdateStatus.{UpdateStatus}
@@ -61,49 +61,49 @@ module _ (g : Geometry) (G : Limits g) where
 
   -- ---- a firmware sector is written
   module _ (l x : List ℕ) (L : length l ≡ partition_size g) (X : length x ≡ g.size) (i : ℕ) (hi : i < firmware g) where
-    before-trailer : i * g.size + g.size ≤ firmware g * g.size
-    before-trailer = sector_end g.size i (firmware g) hi
+    before_trailer : i * g.size + g.size ≤ firmware g * g.size
+    before_trailer = sector_end g.size i (firmware g) hi
 
-    pub status-sector : status_byte g (write_sector g i x l) ≡ status_byte g l
+    pub status_sector : status_byte g (write_sector g i x l) ≡ status_byte g l
     unfolding status_byte
-    status-sector = byte_above g G l x L X i (omega arith) (status_place g) 0 (omega (arith, before-trailer, size_split g G, G.small))
+    status_sector = byte_above g G l x L X i (omega arith) (status_place g) 0 (omega (arith, before_trailer, size_split g G, G.small))
 
-    pub flag-byte-sector : (j : ℕ) → j < firmware g → get_or (write_sector g i x l) (flag_byte g j) 0 ≡ get_or l (flag_byte g j) 0
-    flag-byte-sector j hj = byte_above g G l x L X i (omega arith) (flag_byte g j) 0 (omega (arith, before-trailer, (flag_place j hj).0))
+    pub flag_byte_sector : (j : ℕ) → j < firmware g → get_or (write_sector g i x l) (flag_byte g j) 0 ≡ get_or l (flag_byte g j) 0
+    flag_byte_sector j hj = byte_above g G l x L X i (omega arith) (flag_byte g j) 0 (omega (arith, before_trailer, (flag_place j hj).0))
 
-    pub flag-sector : (j : ℕ) → j < firmware g → flag_at g (write_sector g i x l) j ≡ flag_at g l j
+    pub flag_sector : (j : ℕ) → j < firmware g → flag_at g (write_sector g i x l) j ≡ flag_at g l j
     unfolding flag_at
-    flag-sector j hj = ap (λ (b : ℕ). flag_of (half j b)) (flag-byte-sector j hj)
+    flag_sector j hj = ap (λ (b : ℕ). flag_of (half j b)) (flag_byte_sector j hj)
 
-    pub flags-sector : flags_at g (write_sector g i x l) ≡ flags_at g l
-    flags-sector = flags_same g (write_sector g i x l) l flag-sector
+    pub flags_sector : flags_at g (write_sector g i x l) ≡ flags_at g l
+    flags_sector = flags_same g (write_sector g i x l) l flag_sector
 
   -- ---- a trailer sector is erased
   module _ (l : List ℕ) (L : length l ≡ partition_size g) where
-    pub status-erased : status_byte g (write_sector g (firmware g) (erased g.size) l) ≡ 0xFF
+    pub status_erased : status_byte g (write_sector g (firmware g) (erased g.size) l) ≡ 0xFF
     unfolding status_byte
-    status-erased = trailer-byte g G l L (status_place g) (omega (arith, size_split g G, G.small)) (omega (arith, size_split g G, G.small))
+    status_erased = trailer_byte g G l L (status_place g) (omega (arith, size_split g G, G.small)) (omega (arith, size_split g G, G.small))
 
-    pub boot-erased : boot_status_at g (write_sector g (firmware g) (erased g.size) l) ≡ gives BootNew
-    boot-erased = ap boot_status_of status-erased ∙ reads_boot BootNew
+    pub boot_erased : boot_status_at g (write_sector g (firmware g) (erased g.size) l) ≡ gives BootNew
+    boot_erased = ap boot_status_of status_erased ∙ reads_boot BootNew
 
-    pub update-erased : update_status_at g (write_sector g (firmware g) (erased g.size) l) ≡ gives UpdateNew
-    update-erased = ap update_status_of status-erased ∙ reads_update UpdateNew
+    pub update_erased : update_status_at g (write_sector g (firmware g) (erased g.size) l) ≡ gives UpdateNew
+    update_erased = ap update_status_of status_erased ∙ reads_update UpdateNew
 
-    pub flag-erased : (j : ℕ) → j < firmware g → flag_at g (write_sector g (firmware g) (erased g.size) l) j ≡ Known Untouched
+    pub flag_erased : (j : ℕ) → j < firmware g → flag_at g (write_sector g (firmware g) (erased g.size) l) j ≡ Known Untouched
     unfolding flag_at
-    flag-erased j hj =
-        ap (λ (b : ℕ). flag_of (half j b)) (trailer-byte g G l L (flag_byte g j) (flag_place j hj).0 (omega (arith, (flag_place j hj).1)))
+    flag_erased j hj =
+        ap (λ (b : ℕ). flag_of (half j b)) (trailer_byte g G l L (flag_byte g j) (flag_place j hj).0 (omega (arith, (flag_place j hj).1)))
         ∙ ap flag_of (half_full j) ∙ reads_flag Untouched
 
-    pub flags-erased : flags_at g (write_sector g (firmware g) (erased g.size) l) ≡ AllF
-    flags-erased = shown_all_F g (write_sector g (firmware g) (erased g.size) l) flag-erased
+    pub flags_erased : flags_at g (write_sector g (firmware g) (erased g.size) l) ≡ AllF
+    flags_erased = shown_all_F g (write_sector g (firmware g) (erased g.size) l) flag_erased
 
   -- ---- a flag is written
   module _ (l : List ℕ) (L : length l ≡ partition_size g) (i : ℕ) (v : Flag) (hi : i < firmware g) where
-    pub length-flag : length (set_flag g i v l) ≡ length l
+    pub length_flag : length (set_flag g i v l) ≡ length l
     unfolding set_flag
-    length-flag = simp length-set
+    length_flag = simp length-set
 
     -- every byte but the flag's stays
     pub byte_flag : (p d : ℕ) → p ≢ flag_byte g i → get_or (set_flag g i v l) p d ≡ get_or l p d
@@ -111,9 +111,9 @@ module _ (g : Geometry) (G : Limits g) where
     byte_flag p d h = get_or-set_other l (flag_byte g i) p _ d h
 
     -- every other half byte stays, for odd m the unused one too, which is half m
-    pub half-flag : (j : ℕ) → j ≤ firmware g → j ≢ i → half j (get_or (set_flag g i v l) (flag_byte g j) 0) ≡ half j (get_or l (flag_byte g j) 0)
+    pub half_flag : (j : ℕ) → j ≤ firmware g → j ≢ i → half j (get_or (set_flag g i v l) (flag_byte g j) 0) ≡ half j (get_or l (flag_byte g j) 0)
     unfolding set_flag
-    half-flag j hj h = by_byte (ℕ_discrete (flag_byte g j) (flag_byte g i))
+    half_flag j hj h = by_byte (ℕ_discrete (flag_byte g j) (flag_byte g i))
       where
         by_byte : Dec (flag_byte g j ≡ flag_byte g i) → half j (get_or (set_flag g i v l) (flag_byte g j) 0) ≡ half j (get_or l (flag_byte g j) 0)
         by_byte (no k) = ap (half j) (get_or-set_other l (flag_byte g i) (flag_byte g j) _ 0 k)
@@ -130,47 +130,47 @@ module _ (g : Geometry) (G : Limits g) where
         ap (λ (b : ℕ). flag_of (half i b)) (get_or-set_same l (flag_byte g i) _ 0 (omega (arith, (flag_place i hi).1)))
         ∙ ap flag_of (half_same i (get_or l (flag_byte g i) 0) (flag_value v) (value_small v)) ∙ reads_flag v
 
-    pub flag-other : (j : ℕ) → j < firmware g → j ≢ i → flag_at g (set_flag g i v l) j ≡ flag_at g l j
+    pub flag_other : (j : ℕ) → j < firmware g → j ≢ i → flag_at g (set_flag g i v l) j ≡ flag_at g l j
     unfolding flag_at
-    flag-other j hj h = ap flag_of (half-flag j (omega arith) h)
+    flag_other j hj h = ap flag_of (half_flag j (omega arith) h)
 
-    pub sector-flag : (j : ℕ) → j < firmware g → sector_of g j (set_flag g i v l) ≡ sector_of g j l
+    pub sector_flag : (j : ℕ) → j < firmware g → sector_of g j (set_flag g i v l) ≡ sector_of g j l
     unfolding set_flag
-    sector-flag j hj = part_set (j * g.size) g.size (flag_byte g i) _ l (omega (arith, (flag_place i hi).0, sector_end g.size j (firmware g) hj))
+    sector_flag j hj = part_set (j * g.size) g.size (flag_byte g i) _ l (omega (arith, (flag_place i hi).0, sector_end g.size j (firmware g) hj))
 
-    pub status-flag : status_byte g (set_flag g i v l) ≡ status_byte g l
+    pub status_flag : status_byte g (set_flag g i v l) ≡ status_byte g l
     unfolding status_byte
-    status-flag = byte_flag (status_place g) 0 (omega (arith, (flag_place i hi).1))
+    status_flag = byte_flag (status_place g) 0 (omega (arith, (flag_place i hi).1))
 
   -- ---- a status byte is written
   module _ (l : List ℕ) (L : length l ≡ partition_size g) (b : ℕ) where
-    pub length-status : length (set_status_byte g b l) ≡ length l
+    pub length_status : length (set_status_byte g b l) ≡ length l
     unfolding set_status_byte
-    length-status = simp length-set
+    length_status = simp length-set
 
     -- every other byte stays
-    pub byte-status : (p d : ℕ) → p ≢ status_place g → get_or (set_status_byte g b l) p d ≡ get_or l p d
+    pub byte_status : (p d : ℕ) → p ≢ status_place g → get_or (set_status_byte g b l) p d ≡ get_or l p d
     unfolding set_status_byte
-    byte-status p d h = get_or-set_other l (status_place g) p b d h
+    byte_status p d h = get_or-set_other l (status_place g) p b d h
 
-    pub status-same : status_byte g (set_status_byte g b l) ≡ b
+    pub status_same : status_byte g (set_status_byte g b l) ≡ b
     unfolding set_status_byte status_byte
-    status-same = get_or-set_same l (status_place g) b 0 (omega (arith, size_split g G, G.small))
+    status_same = get_or-set_same l (status_place g) b 0 (omega (arith, size_split g G, G.small))
 
-    pub sector-status : (j : ℕ) → j < firmware g → sector_of g j (set_status_byte g b l) ≡ sector_of g j l
+    pub sector_status : (j : ℕ) → j < firmware g → sector_of g j (set_status_byte g b l) ≡ sector_of g j l
     unfolding set_status_byte
-    sector-status j hj =
+    sector_status j hj =
         part_set (j * g.size) g.size (status_place g) b l (omega (arith, size_split g G, G.small, sector_end g.size j (firmware g) hj))
 
-    pub flag-status : (j : ℕ) → j < firmware g → flag_at g (set_status_byte g b l) j ≡ flag_at g l j
+    pub flag_status : (j : ℕ) → j < firmware g → flag_at g (set_status_byte g b l) j ≡ flag_at g l j
     unfolding flag_at
-    flag-status j hj = ap (λ (x : ℕ). flag_of (half j x)) (byte-status (flag_byte g j) 0 (λ e. omega (arith, (flag_place j hj).1, e)))
+    flag_status j hj = ap (λ (x : ℕ). flag_of (half j x)) (byte_status (flag_byte g j) 0 (λ e. omega (arith, (flag_place j hj).1, e)))
 
-    pub flags-status : flags_at g (set_status_byte g b l) ≡ flags_at g l
-    flags-status = flags_same g (set_status_byte g b l) l flag-status
+    pub flags_status : flags_at g (set_status_byte g b l) ≡ flags_at g l
+    flags_status = flags_same g (set_status_byte g b l) l flag_status
 
   pub boot_written : (l : List ℕ) → length l ≡ partition_size g → (v : BootStatus) → boot_status_at g (set_boot_status g v l) ≡ gives v
-  boot_written l L v = ap boot_status_of (status-same l L (boot_byte v)) ∙ reads_boot v
+  boot_written l L v = ap boot_status_of (status_same l L (boot_byte v)) ∙ reads_boot v
 
   pub update_written : (l : List ℕ) → length l ≡ partition_size g → (v : UpdateStatus) → update_status_at g (set_update_status g v l) ≡ gives v
-  update_written l L v = ap update_status_of (status-same l L (update_byte v)) ∙ reads_update v
+  update_written l L v = ap update_status_of (status_same l L (update_byte v)) ∙ reads_update v

@@ -18,7 +18,7 @@ use Rattle.flash_flags.specs.declared.Flags.{Flags}
 use Rattle.flash_flags.specs.declared.Flags.TheVariants.{AllF, At, All0}
 use Rattle.flash_flags.specs.SectorFlags.{moved, leg_flag, leg_moves, flag_at, set_flag, flags_at}
 use Rattle.flash_flags.proofs.Shown.{shown_all_F, shown_all_0, shown_at, each_F, ShownAt, each_at}
-use Rattle.flash_flags.proofs.Laws.{flag_same, flag-other}
+use Rattle.flash_flags.proofs.Laws.{flag_same, flag_other}
 
 pub leg_moved : (leg : Leg) → moved (leg_moves leg) ≡ leg_flag leg
 leg_moved UpdateToSwap = refl
@@ -120,8 +120,8 @@ module _ (g : Geometry) (G : Limits g) (u : List ℕ) (U : length u ≡ partitio
           let q : suc (leg_moves leg) ≡ suc (3 * i + leg_moves leg) - 3 * j = omega arith in
           ap (flag_at g (set_flag g i v u)) e ∙ flag_same g G u U i v hi ∙ ap (λ (a : ℕ). Known (moved a)) q
       by (no k) (yes d) =
-          flag-other g G u U i v hi j hj k ∙ h j hj
+          flag_other g G u U i v hi j hj k ∙ h j hj
           ∙ ap Known (moved_all (3 * i + leg_moves leg - 3 * j) (omega arith) ∙ sym (moved_all (suc (3 * i + leg_moves leg) - 3 * j) (omega arith)))
       by (no k) (no d) =
-          flag-other g G u U i v hi j hj k ∙ h j hj
+          flag_other g G u U i v hi j hj k ∙ h j hj
           ∙ ap Known (moved_none (3 * i + leg_moves leg - 3 * j) (omega (arith, leg_below leg)) ∙ sym (moved_none (suc (3 * i + leg_moves leg) - 3 * j) (omega (arith, leg_below leg))))

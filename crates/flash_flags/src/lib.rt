@@ -1,4 +1,6 @@
 // The sector flags of document 01, in the trailer sector of UPDATE.
+#![tactic(auto)]
+
 ghost use Rattle.std.specs.Prelude.{◌≡◌, ◌-◌, ◌≤◌, ◌<◌};
 ghost use Rattle.flash.specs.Sizes.{firmware, Limits};
 ghost use Rattle.flash.specs.Sectors.{Partition, sector_number};
@@ -10,7 +12,7 @@ use flash::{ByteOffset, Geometry, SectorNumber};
 
 // A firmware sector's flag, document 01's F, 7, 3 and 0: nothing is done; UPDATE's sector is saved in SWAP; BOOT's is moved to UPDATE;
 // the two are exchanged.
-#[derive(Drop)]
+#[derive(Clone, Copy)]
 pub enum Flag {
     Untouched,
     Saved,
@@ -19,7 +21,7 @@ pub enum Flag {
 }
 
 // What a half byte reads as: a flag, or a value that no flag has.
-#[derive(Drop)]
+#[derive(Clone, Copy)]
 pub enum FlagRead {
     Known(Flag),
     Unknown,
@@ -134,7 +136,7 @@ pub fn write_flag(g: Geometry, update: &mut [u8], i: SectorNumber, flag: Flag)
 }
 
 // Document 01's leg: erase, copy and flag write of one sector, named by its copy. The flag shows which is next: F, 7 and 3, in this order.
-#[derive(Drop)]
+#[derive(Clone, Copy)]
 pub enum Leg {
     UpdateToSwap,
     BootToUpdate,
@@ -156,7 +158,7 @@ impl Leg {
 
 // What the flags of the firmware sectors show: not well formed; all F; the first sector whose flag is not 0 with its leg, 0 before it
 // and F after it; all 0.
-#[derive(Drop)]
+#[derive(Clone, Copy)]
 pub enum Flags {
     Malformed,
     AllF,

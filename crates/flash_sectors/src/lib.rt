@@ -1,4 +1,6 @@
 // Sectors: erase and copy, of a lent sector and of a sector by its number; the firmware sectors of a partition.
+#![tactic(auto)]
+
 ghost use Rattle.std.specs.Prelude.{◌≡◌, ◌<◌, length};
 ghost use Rattle.flash.specs.Sizes.{partition_size};
 ghost use Rattle.flash.specs.Sectors.{Partition, sector_of, write_sector, firmware_of, erased};
@@ -18,7 +20,7 @@ pub fn erase(sector: &mut [u8])
 }
 
 // What a copy answers. Where the lengths are unequal no byte is changed.
-#[derive(Drop)]
+#[derive(Clone, Copy)]
 pub enum CopyAnswer {
     Done,
     Unequal,

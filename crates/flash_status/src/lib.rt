@@ -1,4 +1,6 @@
 // The status bytes of BOOT and UPDATE, each the last byte of its partition.
+#![tactic(auto)]
+
 ghost use Rattle.std.specs.Prelude.{◌≡◌};
 ghost use Rattle.flash.specs.Sizes.{Limits};
 ghost use Rattle.flash.specs.Sectors.{Partition};
@@ -9,7 +11,7 @@ ghost use Rattle.flash_status.specs.StatusBytes.{update_byte, update_status_answ
 use flash::{ByteOffset, Geometry};
 
 // What BOOT's status byte may hold.
-#[derive(Drop)]
+#[derive(Clone, Copy)]
 pub enum BootStatus {
     New,
     Testing,
@@ -17,7 +19,7 @@ pub enum BootStatus {
 }
 
 // BOOT's status, or a byte that BOOT may not hold.
-#[derive(Drop)]
+#[derive(Clone, Copy)]
 pub enum BootStatusAnswer {
     Boot(BootStatus),
     NotAllowed,
@@ -53,14 +55,14 @@ impl BootStatus {
 }
 
 // What UPDATE's status byte may hold.
-#[derive(Drop)]
+#[derive(Clone, Copy)]
 pub enum UpdateStatus {
     New,
     Updating,
 }
 
 // UPDATE's status, or a byte that UPDATE may not hold.
-#[derive(Drop)]
+#[derive(Clone, Copy)]
 pub enum UpdateStatusAnswer {
     Update(UpdateStatus),
     NotAllowed,
@@ -150,7 +152,7 @@ pub fn write_update_status(g: Geometry, update: &mut [u8], status: UpdateStatus)
 }
 
 // BOOT's and UPDATE's status, where both bytes are allowed.
-#[derive(Drop)]
+#[derive(Clone, Copy)]
 pub enum Statuses {
     Allowed(BootStatus, UpdateStatus),
     NotAllowed,

@@ -13,7 +13,7 @@ use Rattle.header_tags.specs.declared.Tag.TheVariants.{Found, End, TooShort, Doe
 use Rattle.header_tags.proofs.Laws.{tags_step, next_within}
 use Rattle.header_places.specs.Table.{TagTable}
 use Rattle.header_places.specs.Judging.{row_of, judge, places_in}
-use Rattle.header_places.proofs.RuledOut.{other_tag, critical_tag, length-tag, repeated-tag, taken-tag}
+use Rattle.header_places.proofs.RuledOut.{other_tag, critical_tag, length_tag, repeated_tag, taken_tag}
 
 module _ (l : List ℕ) (x i : ℕ) where
   pub row_here : i < length l → get_or l i 0 ≡ x → row_of (drop i l) x ≡ 0
@@ -58,14 +58,14 @@ module _ {T : TagTable} {seen h : List ℕ} {at : ℕ} {O : Answer (List ℕ)} {
     pub not_understood_lem : length T.types ≤ r → T.critical ≤ k → refused 18 q ≡ O
     not_understood_lem a b = sym (critical_tag T seen q k n _ (sym row) a b) ∙ first inv g e
 
-    pub wrong-length : r < length T.types → (n ≡ get_or T.lengths r 0 → ⊥) → refused 5 q ≡ O
-    wrong-length a b = sym (length-tag T seen q k n _ (sym row) a b) ∙ first inv g e
+    pub wrong_length_lem : r < length T.types → (n ≡ get_or T.lengths r 0 → ⊥) → refused 5 q ≡ O
+    wrong_length_lem a b = sym (length_tag T seen q k n _ (sym row) a b) ∙ first inv g e
 
     pub repeated : r < length T.types → n ≡ get_or T.lengths r 0 → (get_or seen r 0 ≡ 0 → ⊥) → refused 6 q ≡ O
-    repeated a b d = sym (repeated-tag T seen q k n _ (sym row) a b d) ∙ first inv g e
+    repeated a b d = sym (repeated_tag T seen q k n _ (sym row) a b d) ∙ first inv g e
 
     pub taken : r < length T.types → n ≡ get_or T.lengths r 0 → get_or seen r 0 ≡ 0 → Goes T (set seen r q) h (q + 4 + n) O
-    taken a b d = record { is = sym (taken-tag T seen q k n _ (sym row) a b d) ∙ first inv g e }
+    taken a b d = record { is = sym (taken_tag T seen q k n _ (sym row) a b d) ∙ first inv g e }
 
 module _ {T : TagTable} {seen h : List ℕ} {at : ℕ} {O : Answer (List ℕ)} {t : Tag} (inv : Goes T seen h at O)
     (g : item_of t ≡ next_item h at) where

@@ -89,26 +89,26 @@ module _ (T : TagTable) (seen : List ℕ) (q t n : ℕ) (rest : Tags) {r : ℕ} 
   critical_tag a b = simp (row, le-ltb _ _ a, le-ltb _ _ b)
 
   module _ (a : r < length T.types) where
-    pub length-tag : n ≢ get_or T.lengths r 0 → judge T seen (more q t n rest) ≡ refused 5 q
+    pub length_tag : n ≢ get_or T.lengths r 0 → judge T seen (more q t n rest) ≡ refused 5 q
     unfolding judge
-    length-tag d = simp (row, lt-ltb _ _ a, ne_eqb _ _ d)
+    length_tag d = simp (row, lt-ltb _ _ a, ne_eqb _ _ d)
 
-    pub repeated-tag : n ≡ get_or T.lengths r 0 → get_or seen r 0 ≢ 0 → judge T seen (more q t n rest) ≡ refused 6 q
+    pub repeated_tag : n ≡ get_or T.lengths r 0 → get_or seen r 0 ≢ 0 → judge T seen (more q t n rest) ≡ refused 6 q
     unfolding judge
-    repeated-tag e d = simp (row, lt-ltb _ _ a, eq-eqb _ _ e, ne_eqb _ _ d)
+    repeated_tag e d = simp (row, lt-ltb _ _ a, eq-eqb _ _ e, ne_eqb _ _ d)
 
-    pub taken-tag : n ≡ get_or T.lengths r 0 → get_or seen r 0 ≡ 0 → judge T seen (more q t n rest) ≡ judge T (set seen r q) rest
+    pub taken_tag : n ≡ get_or T.lengths r 0 → get_or seen r 0 ≡ 0 → judge T seen (more q t n rest) ≡ judge T (set seen r q) rest
     unfolding judge
-    taken-tag e d = simp (row, lt-ltb _ _ a, eq-eqb _ _ e, eq-eqb _ _ d)
+    taken_tag e d = simp (row, lt-ltb _ _ a, eq-eqb _ _ e, eq-eqb _ _ d)
 
 pub tags_are_judged : TagsAreJudged
 tags_are_judged T seen q t n rest =
     record {
       other = λ f. other_tag T seen q t n rest refl (not_known T t f);
       critical = λ f. critical_tag T seen q t n rest refl (not_known T t f);
-      wrong_length = λ r i. length-tag T seen q t n rest (row_of_lem i) i.row;
-      repeated = λ r i. repeated-tag T seen q t n rest (row_of_lem i) i.row;
-      taken = λ r i. taken-tag T seen q t n rest (row_of_lem i) i.row;
+      wrong_length = λ r i. length_tag T seen q t n rest (row_of_lem i) i.row;
+      repeated = λ r i. repeated_tag T seen q t n rest (row_of_lem i) i.row;
+      taken = λ r i. taken_tag T seen q t n rest (row_of_lem i) i.row;
     }
 
 -- what a tag is, and what the table makes of it whatever follows: one of five
@@ -137,9 +137,9 @@ verdict T seen q t n =
         let w : length T.types ≤ row_of T.types t = omega arith in
         let k : T.critical ≤ t = omega arith in
         is_critical w k (λ rest. critical_tag T seen q t n rest refl w k)
-    go (yes a) b (no c) d = has_length a c (λ rest. length-tag T seen q t n rest refl a c)
-    go (yes a) b (yes c) (no d) = is_repeated a c d (λ rest. repeated-tag T seen q t n rest refl a c d)
-    go (yes a) b (yes c) (yes d) = is_taken a c d (λ rest. taken-tag T seen q t n rest refl a c d)
+    go (yes a) b (no c) d = has_length a c (λ rest. length_tag T seen q t n rest refl a c)
+    go (yes a) b (yes c) (no d) = is_repeated a c d (λ rest. repeated_tag T seen q t n rest refl a c d)
+    go (yes a) b (yes c) (yes d) = is_taken a c d (λ rest. taken_tag T seen q t n rest refl a c d)
 
 -- ---- the end, judged
 

@@ -19,7 +19,7 @@ use Rattle.header_places.specs.Table.{TagTable, bounded_by}
 use Rattle.header_places.specs.Judging.{row_of, judge, places_in}
 use Rattle.header_places.specs.RuledOut.{Known, Unknown}
 use Rattle.header_places.specs.Understood.{Passed, arrived, skipped, taken, RestDecides, NotUnderstood, EighteenExactly, Understood, EighteenTells, told, of_length, again, RefusedUpTo, EachIsRefused, TakenIsUnderstood, ReadAsBefore, TableSays, TablesAsHanded}
-use Rattle.header_places.proofs.RuledOut.{known, not_known, unknown, in_row, row_of_lem, other_tag, critical_tag, length-tag, repeated-tag, taken-tag, Verdict, is_skipped, is_critical, has_length, is_repeated, is_taken, verdict, Breaks, tags_break}
+use Rattle.header_places.proofs.RuledOut.{known, not_known, unknown, in_row, row_of_lem, other_tag, critical_tag, length_tag, repeated_tag, taken_tag, Verdict, is_skipped, is_critical, has_length, is_repeated, is_taken, verdict, Breaks, tags_break}
 use Rattle.header_places.proofs.Before.{no_more, first_or_behind}
 
 -- ---- what is passed has no other say
@@ -28,7 +28,7 @@ passed_on : {T : TagTable} {after : List ℕ} {rest : Tags} {seen : List ℕ} {t
     → judge T seen tags ≡ judge T after rest
 passed_on arrived = refl
 passed_on {T} (skipped q t n u l p) = other_tag T _ q t n _ refl (not_known T t u) l ∙ passed_on p
-passed_on {T} (taken q t n r i e z p) = taken-tag T _ q t n _ (row_of_lem i) i.row e z ∙ passed_on p
+passed_on {T} (taken q t n r i e z p) = taken_tag T _ q t n _ (row_of_lem i) i.row e z ∙ passed_on p
 
 pub rest_decides : RestDecides
 unfolding places_in
@@ -257,10 +257,10 @@ same_under T bound (more q t n rest) k seen =
         → judge (bounded_by bound T) seen (more q t n rest) ≡ judge T seen (more q t n rest)
     go ih u (is_skipped a b goes) = other_tag (bounded_by bound T) seen q t n rest refl a (low a u) ∙ ih seen ∙ sym (goes rest)
     go ih u (is_critical a b goes) = absurd (omega (arith, low a (k q t (here q t n rest)).0))
-    go ih u (has_length a b goes) = length-tag (bounded_by bound T) seen q t n rest refl a b ∙ sym (goes rest)
-    go ih u (is_repeated a b d goes) = repeated-tag (bounded_by bound T) seen q t n rest refl a b d ∙ sym (goes rest)
+    go ih u (has_length a b goes) = length_tag (bounded_by bound T) seen q t n rest refl a b ∙ sym (goes rest)
+    go ih u (is_repeated a b d goes) = repeated_tag (bounded_by bound T) seen q t n rest refl a b d ∙ sym (goes rest)
     go ih u (is_taken a b d goes) =
-        taken-tag (bounded_by bound T) seen q t n rest refl a b d ∙ ih (set seen (row_of T.types t) q) ∙ sym (goes rest)
+        taken_tag (bounded_by bound T) seen q t n rest refl a b d ∙ ih (set seen (row_of T.types t) q) ∙ sym (goes rest)
 
 -- a known type is known whatever the bound is
 pub known_under : {T : TagTable} {t : ℕ} (bound : ℕ) → Known T t → Known (bounded_by bound T) t

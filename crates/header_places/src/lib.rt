@@ -1,4 +1,6 @@
 // Where the tags of a rustBoot header stand, judged by a table of types and lengths.
+#![tactic(auto)]
+
 ghost use Rattle.std.specs.Prelude.{◌≡◌, ◌≤◌};
 ghost use Rattle.header_places.specs.Table.{table_of};
 ghost use Rattle.header_places.specs.Judging.{row_of, places_in, blank, Finds};
@@ -10,7 +12,7 @@ use numbers::HeaderOutcome;
 pub const ROWS: usize = 6;
 
 // A table of tags: the types in rising order, the lengths of their values, and how many of the rows, from the first on, are required.
-#[derive(Drop)]
+#[derive(Clone, Copy)]
 pub struct TagTable {
     pub types: [usize; ROWS],
     pub lengths: [usize; ROWS],
@@ -23,7 +25,7 @@ impl TagTable {
 }
 
 // The places of the table's tags, 0 where a tag was not seen, and the outcome. The places of a refusal are blank: all 0.
-#[derive(Drop)]
+#[derive(Clone, Copy)]
 pub struct Places {
     pub outcome: HeaderOutcome,
     pub places: [usize; ROWS],

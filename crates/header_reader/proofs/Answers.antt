@@ -32,9 +32,9 @@ module _ (s : List ℕ) where
   short a = simp (lt-ltb _ _ a)
 
   module _ (room : 256 ≤ length s) {m : ℕ} (em : m ≡ number (bytes_at (take 256 s) 0 4)) where
-    pub no-magic : (m ≡ number magic → ⊥) → tag_places s ≡ refused 2 0
+    pub no_magic : (m ≡ number magic → ⊥) → tag_places s ≡ refused 2 0
     unfolding tag_places
-    no-magic b = simp (le-ltb _ _ room, ne_eqb _ _ (rw em at b))
+    no_magic b = simp (le-ltb _ _ room, ne_eqb _ _ (rw em at b))
 
     module _ (is : m ≡ number magic) {z : ℕ} (ez : z ≡ number (bytes_at (take 256 s) 4 4)) where
       pub no_size : z ≡ 0 → tag_places s ≡ refused 3 4

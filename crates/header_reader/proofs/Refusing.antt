@@ -18,7 +18,7 @@ use Rattle.header_reader.specs.declared.Header.{Header}
 use Rattle.header_reader.specs.Reading.{magic, bytes_at, values_at, read_header}
 use Rattle.header_reader.specs.Refusing.{HasMagic, HasSizeZero, ReaderRefuses, WhenReaderRefuses}
 use Rattle.header_reader.proofs.BytesAt.{num_4}
-use Rattle.header_reader.proofs.Answers.{short, no-magic, no_size, by_tags, by_places}
+use Rattle.header_reader.proofs.Answers.{short, no_magic, no_size, by_tags, by_places}
 
 -- the walk's answer
 abbrev walked : List ℕ → Answer Header
@@ -81,9 +81,9 @@ module _ (s : List ℕ) where
       }
 
   module _ (bytes : (i : ℕ) → get_or s i 0 < 256) (room : 256 ≤ length s) where
-    by-magic : (number (bytes_at (take 256 s) 0 4) ≡ number magic → ⊥) → ReaderRefuses s
-    by-magic d =
-        let is : read_header s ≡ refused 2 0 = by_places s (no-magic s room refl d) in
+    by_magic : (number (bytes_at (take 256 s) 0 4) ≡ number magic → ⊥) → ReaderRefuses s
+    by_magic d =
+        let is : read_header s ≡ refused 2 0 = by_places s (no_magic s room refl d) in
         let not : HasMagic s → ⊥ = λ m. d (magic_there s bytes room m) in
         record {
           short = (λ e. apart is e (λ n. omega arith), λ l. absurd (omega arith));
@@ -103,8 +103,8 @@ module _ (s : List ℕ) where
             walk = λ r h d. absurd (d (has_zero s bytes room z));
           }
 
-      by-walk : (number (bytes_at (take 256 s) 4 4) ≡ 0 → ⊥) → ReaderRefuses s
-      by-walk d =
+      by_walk : (number (bytes_at (take 256 s) 4 4) ≡ 0 → ⊥) → ReaderRefuses s
+      by_walk d =
           let is : read_header s ≡ walked s = by_places s (by_tags s room refl m refl d) in
           record {
             short = (λ e. absurd ((walked_number s (sym is ∙ e)).1 refl), λ l. absurd (omega arith));
@@ -120,6 +120,6 @@ when_reader_refuses s bytes =
     go : Dec (length s < 256) → Dec (number (bytes_at (take 256 s) 0 4) ≡ number magic) → Dec (number (bytes_at (take 256 s) 4 4) ≡ 0)
         → ReaderRefuses s
     go (yes lt) m z = by_short s lt
-    go (no ge) (no d) z = by-magic s bytes (omega arith) d
+    go (no ge) (no d) z = by_magic s bytes (omega arith) d
     go (no ge) (yes m) (yes z) = by_zero s bytes (omega arith) m z
-    go (no ge) (yes m) (no d) = by-walk s bytes (omega arith) m d
+    go (no ge) (yes m) (no d) = by_walk s bytes (omega arith) m d

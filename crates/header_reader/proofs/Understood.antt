@@ -19,7 +19,7 @@ use Rattle.header_places.proofs.Understood.{not_eighteen, eighteen_exactly, eigh
 use Rattle.header_reader.specs.declared.Header.{Header}
 use Rattle.header_reader.specs.Reading.{magic, bytes_at, values_at, read_header}
 use Rattle.header_reader.specs.Refusing.{HasMagic, HasSizeZero, CriticalTag, WhatIsUnderstood}
-use Rattle.header_reader.proofs.Answers.{short, no-magic, no_size, by_tags, located, by_places, places_refused, places_taken}
+use Rattle.header_reader.proofs.Answers.{short, no_magic, no_size, by_tags, located, by_places, places_refused, places_taken}
 use Rattle.header_reader.proofs.Refusing.{has_magic, zero_there, when_reader_refuses}
 
 -- ---- document 01's table
@@ -45,23 +45,23 @@ module _ (s : List ℕ) where
 
   module _ (bytes : AllBytes s) where
     -- the walk's answer, where the tests before it find nothing
-    by-walk : {a : Answer (List ℕ)} → 256 ≤ length s → HasMagic s → (HasSizeZero s → ⊥) → places_in document_table (take 256 s) ≡ a
+    by_walk : {a : Answer (List ℕ)} → 256 ≤ length s → HasMagic s → (HasSizeZero s → ⊥) → places_in document_table (take 256 s) ≡ a
         → read_header s ≡ then a (λ l. gives (values_at (take 256 s) l))
-    by-walk room m z e =
+    by_walk room m z e =
         (when_reader_refuses s bytes).walk room m z ∙ ap (λ (a : Answer (List ℕ)). then a (λ l. gives (values_at (take 256 s) l))) e
 
-    exactly-critical : (q : ℕ)
+    exactly_critical : (q : ℕ)
         → (read_header s ≡ refused 18 q) ↔ ((256 ≤ length s) × HasMagic s × (HasSizeZero s → ⊥) × NotUnderstood document_table (take 256 s) q)
-    exactly-critical q = (
+    exactly_critical q = (
       λ e. go e (dec_lt (length s) 256) (ℕ_discrete (number (bytes_at (take 256 s) 0 4)) (number magic)) (ℕ_discrete (number (bytes_at (take 256 s) 4 4)) 0),
-      λ w. by-walk w.0 w.1 w.2 ((eighteen_exactly document_table (take 256 s) q).1 w.3),
+      λ w. by_walk w.0 w.1 w.2 ((eighteen_exactly document_table (take 256 s) q).1 w.3),
     )
       where
         go : read_header s ≡ refused 18 q → Dec (length s < 256) → Dec (number (bytes_at (take 256 s) 0 4) ≡ number magic)
             → Dec (number (bytes_at (take 256 s) 4 4) ≡ 0)
             → (256 ≤ length s) × HasMagic s × (HasSizeZero s → ⊥) × NotUnderstood document_table (take 256 s) q
         go e (yes a) m z = not_eighteen (λ x. omega arith) (sym (by_places s (short s a)) ∙ e)
-        go e (no a) (no m) z = not_eighteen (λ x. omega arith) (sym (by_places s (no-magic s (omega arith) refl m)) ∙ e)
+        go e (no a) (no m) z = not_eighteen (λ x. omega arith) (sym (by_places s (no_magic s (omega arith) refl m)) ∙ e)
         go e (no a) (yes m) (yes z) = not_eighteen (λ x. omega arith) (sym (by_places s (no_size s (omega arith) refl m refl z)) ∙ e)
         go e (no a) (yes m) (no z) = (
           omega arith,
@@ -70,9 +70,9 @@ module _ (s : List ℕ) where
           (eighteen_exactly document_table (take 256 s) q).0 (sym (by_tags s (omega arith) refl m refl z) ∙ places_refused s 18 q e),
         )
 
-    tells-critical : (q : ℕ) → read_header s ≡ refused 18 q → CriticalTag s q
-    tells-critical q e =
-        let w = eighteen_tells document_table (take 256 s) q ((eighteen_exactly document_table (take 256 s) q).1 ((exactly-critical q).0 e).3) in
+    tells_critical : (q : ℕ) → read_header s ≡ refused 18 q → CriticalTag s q
+    tells_critical q e =
+        let w = eighteen_tells document_table (take 256 s) q ((eighteen_exactly document_table (take 256 s) q).1 ((exactly_critical q).0 e).3) in
         record {
           type = w.type;
           size = w.size;
@@ -82,16 +82,16 @@ module _ (s : List ℕ) where
           first = λ p t a lt. understood_low t (w.first p t a lt);
         }
 
-    refuses-critical : (q t : ℕ) → 256 ≤ length s → HasMagic s → (HasSizeZero s → ⊥) → TagAt s q t → 0x8000 ≤ t → RefusedUpTo q (read_header s)
-    refuses-critical q t room m z w high =
+    refuses_critical : (q t : ℕ) → 256 ≤ length s → HasMagic s → (HasSizeZero s → ⊥) → TagAt s q t → 0x8000 ≤ t → RefusedUpTo q (read_header s)
+    refuses_critical q t room m z w high =
         let r = each_is_refused document_table (take 256 s) q t w (none_high t high) high in
-        record { number = r.number; place = r.place; is = by-walk room m z r.is; order = r.order }
+        record { number = r.number; place = r.place; is = by_walk room m z r.is; order = r.order }
 
 pub what_is_understood : WhatIsUnderstood
 what_is_understood s bytes =
     record {
       taken = taken_low s;
-      exactly = exactly-critical s bytes;
-      tells = tells-critical s bytes;
-      refuses = refuses-critical s bytes;
+      exactly = exactly_critical s bytes;
+      tells = tells_critical s bytes;
+      refuses = refuses_critical s bytes;
     }

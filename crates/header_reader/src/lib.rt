@@ -1,4 +1,6 @@
 // The reader of a rustBoot header: the values of its tags.
+#![tactic(auto)]
+
 ghost use Rattle.std.specs.Prelude.{◌≡◌, ◌+◌, ◌*◌, ◌≤◌, cond, length, replicate, eqb};
 ghost use Rattle.header_tags.specs.Bytes.{number};
 ghost use Rattle.header_places.specs.Table.{document_table};
@@ -9,7 +11,7 @@ use header_places::{Places, ROWS, TagTable};
 use numbers::HeaderOutcome;
 
 // What a header carries.
-#[derive(Drop)]
+#[derive(Clone, Copy)]
 pub struct Header {
     // The firmware's size in bytes, the header not counted.
     pub size: u32,
@@ -73,7 +75,7 @@ const LENGTHS: [usize; ROWS] = [4, 8, 32, 64, 2, 32];
 const REQUIRED: usize = 5;
 
 // The reader's answer. The header of a refusal is blank.
-#[derive(Drop)]
+#[derive(Clone, Copy)]
 pub struct HeaderAnswer {
     pub outcome: HeaderOutcome,
     pub header: Header,
@@ -122,7 +124,7 @@ pub fn copy_32(h: &[u8], at: usize) -> [u8; 32]
     ensures { result ≡ bytes_at h.now at 32 }
 {
     let mut b = [0u8; 32];
-    bytes::copy(&h[at..at + 32], &mut b);
+    b.copy_from_slice(&h[at..at + 32]);
     b
 }
 
@@ -131,7 +133,7 @@ pub fn copy_64(h: &[u8], at: usize) -> [u8; 64]
     ensures { result ≡ bytes_at h.now at 64 }
 {
     let mut b = [0u8; 64];
-    bytes::copy(&h[at..at + 64], &mut b);
+    b.copy_from_slice(&h[at..at + 64]);
     b
 }
 

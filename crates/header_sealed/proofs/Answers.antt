@@ -94,27 +94,27 @@ module _ (v : Header) (out : List ℕ) where
   sealed_zero a b = simp (le-ltb _ _ a, eq-eqb _ _ b) refl
 
   module _ (room : 256 ≤ length out) (some : v.size ≢ 0) where
-    pub sealed-no-hint : v.has_hint ≡ false → write (refused 21 138) out ≡ write_sealed v out
+    pub sealed_no_hint : v.has_hint ≡ false → write (refused 21 138) out ≡ write_sealed v out
     unfolding write_sealed
-    sealed-no-hint h = simp (le-ltb _ _ room, ne_eqb _ _ some, h) refl
+    sealed_no_hint h = simp (le-ltb _ _ room, ne_eqb _ _ some, h) refl
 
     -- what the ordinary writer leaves, and answers
-    pub sealed-written : v.has_hint ≡ true → write_header v out ≡ write_sealed v out
+    pub sealed_written : v.has_hint ≡ true → write_header v out ≡ write_sealed v out
     unfolding write_header write_sealed
-    sealed-written h = simp (le-ltb _ _ room, ne_eqb _ _ some, h) refl
+    sealed_written h = simp (le-ltb _ _ room, ne_eqb _ _ some, h) refl
 
-    pub writer-takes : write_header v out ≡ write (gives tt) (header_bytes v ++ drop 256 out)
+    pub writer_takes : write_header v out ≡ write (gives tt) (header_bytes v ++ drop 256 out)
     unfolding write_header
-    writer-takes = simp (le-ltb _ _ room, ne_eqb _ _ some) refl
+    writer_takes = simp (le-ltb _ _ room, ne_eqb _ _ some) refl
 
 -- the ordinary writer was called, and its answer is not looked at
 pub taken_on : (v : Header) (out : List ℕ) → 256 ≤ length out → v.size ≢ 0 → v.has_hint ≡ true → {w : Write} → w ≡ write_header v out
     → write (gives tt) w.bytes ≡ write_sealed v out
 taken_on v out room some h {w} e =
-    let k = e ∙ writer-takes v out room some in
-    ap (λ (x : Write). write (gives tt) x.bytes) k ∙ sym (writer-takes v out room some) ∙ sealed-written v out room some h
+    let k = e ∙ writer_takes v out room some in
+    ap (λ (x : Write). write (gives tt) x.bytes) k ∙ sym (writer_takes v out room some) ∙ sealed_written v out room some h
 
 -- a header written over 256 bytes is the written form
 pub form_is : (v : Header) (w : Write) → v.size ≢ 0 → w ≡ write_header v (replicate 256 0) → w.bytes ≡ header_bytes v
 form_is v w some e =
-    ap (λ (x : Write). x.bytes) (e ∙ writer-takes v (replicate 256 0) (omega arith) some) ∙ append-nil (header_bytes v)
+    ap (λ (x : Write). x.bytes) (e ∙ writer_takes v (replicate 256 0) (omega arith) some) ∙ append-nil (header_bytes v)

@@ -1,4 +1,6 @@
 // The sealed profile of a rustBoot header: the written form with a hint, and no other.
+#![tactic(auto)]
+
 ghost use Rattle.std.specs.Prelude.{◌≡◌, ◌≢◌, length};
 ghost use Rattle.numbers.specs.GivenBack.{sealed_says, sealed_writer_answer};
 ghost use Rattle.header_reader.specs.Reading.{blank};
@@ -12,7 +14,7 @@ use numbers::{HeaderOutcome, SealedOutcome, SealedWriteOutcome};
 const HINT_TAG: usize = 138;
 
 // The sealed reader's answer. The header of a refusal is blank.
-#[derive(Drop)]
+#[derive(Clone, Copy)]
 pub struct SealedAnswer {
     pub outcome: SealedOutcome,
     pub header: Header,

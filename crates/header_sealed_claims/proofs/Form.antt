@@ -27,7 +27,7 @@ use Rattle.header_round_trips.proofs.Back.{laid, rest, header_laid, tags_written
 use Rattle.header_round_trips.proofs.Marked.{tags_length}
 use Rattle.header_round_trips.proofs.Again.{read_is_holdable}
 use Rattle.header_sealed.specs.Profile.{read_sealed}
-use Rattle.header_sealed.proofs.Answers.{whole, writer-takes}
+use Rattle.header_sealed.proofs.Answers.{whole, writer_takes}
 use Rattle.header_sealed_claims.specs.Claims.{six_tags, SealedForm, TakesTheSealedForm}
 use Rattle.header_sealed_claims.proofs.Sealing.{sealed_form, sealed_when, reader_gave}
 use Rattle.header_sealed_claims.proofs.Parts.{tag_there, number_there, front_there}
@@ -39,7 +39,7 @@ module _ (v : Header) (f : Holdable v) (hint : v.has_hint ≡ true) (out : List 
   b = header_bytes v ++ drop 256 out
 
   left : (write_header v out).bytes ≡ b
-  left = ap (λ (w : Write). w.bytes) (writer-takes v out room f.some)
+  left = ap (λ (w : Write). w.bytes) (writer_takes v out room f.some)
 
   has_magic : HasMagic b
   unfolding header_bytes

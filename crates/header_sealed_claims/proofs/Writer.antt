@@ -15,7 +15,7 @@ use Rattle.header_writer.specs.Writing.{Write, write, write_header}
 use Rattle.header_round_trips.specs.RoundTrips.{carried_hint, carried, RoundTrip}
 use Rattle.header_round_trips.proofs.Back.{header_length, write_then_read}
 use Rattle.header_sealed.specs.Profile.{write_sealed}
-use Rattle.header_sealed.proofs.Answers.{whole, sealed_short, sealed_zero, sealed-no-hint, sealed-written, writer-takes}
+use Rattle.header_sealed.proofs.Answers.{whole, sealed_short, sealed_zero, sealed_no_hint, sealed_written, writer_takes}
 use Rattle.header_sealed_claims.specs.Claims.{SealedForm, WriteThenReadSealed, ReadThenWriteSealed, SealedWriterRefuses, WhenSealedWriterRefuses}
 use Rattle.header_sealed_claims.proofs.Sealing.{sealed_form, sealed_when, reader_gave}
 use Rattle.header_sealed_claims.proofs.Form.{written_form}
@@ -37,7 +37,7 @@ carries v hint = λ i. record {
 
 pub write_then_read_sealed : WriteThenReadSealed
 write_then_read_sealed v f hint out room =
-    let same : write_header v out ≡ write_sealed v out = sealed-written v out room f.some hint in
+    let same : write_header v out ≡ write_sealed v out = sealed_written v out room f.some hint in
     let t : RoundTrip (write_sealed v out) out v v =
     subst (λ (u : Header). RoundTrip (write_sealed v out) out v u) (carries v hint)
     (subst (λ (w : Write). RoundTrip w out v (carried v)) same (write_then_read v f out room)) in
@@ -55,7 +55,7 @@ read_then_write_sealed s bytes v e out room =
     let r = reader_gave s v e in
     let w = sealed_form s bytes v r e in
     let some = (whole s v r).some in
-    sym (sealed-written v out room some w.0) ∙ writer-takes v out room some
+    sym (sealed_written v out room some w.0) ∙ writer_takes v out room some
     ∙ ap (λ (l : List ℕ). write (gives tt) (l ++ drop 256 out)) (sym w.1)
 
 -- ---- when it refuses: each case has its answer, and the others not
@@ -88,9 +88,9 @@ module _ (v : Header) (out : List ℕ) where
         }
 
     module _ (some : v.size ≢ 0) where
-      by-no-hint : v.has_hint ≡ false → SealedWriterRefuses v out
-      by-no-hint none =
-          let is = sym (sealed-no-hint v out room some none) in
+      by_no_hint : v.has_hint ≡ false → SealedWriterRefuses v out
+      by_no_hint none =
+          let is = sym (sealed_no_hint v out room some none) in
           record {
             short = (λ e. apart (answers is) (answers e) (λ n. omega arith), λ l. absurd (omega arith));
             zero = (λ e. apart (answers is) (answers e) (λ n. omega arith), λ w. absurd (some w.1));
@@ -99,10 +99,10 @@ module _ (v : Header) (out : List ℕ) where
             same = λ e. apart (answers is) e (λ n. omega arith);
           }
 
-      by-hint : v.has_hint ≡ true → SealedWriterRefuses v out
-      by-hint hint =
-          let like = sym (sealed-written v out room some hint) in
-          let is = like ∙ writer-takes v out room some in
+      by_hint : v.has_hint ≡ true → SealedWriterRefuses v out
+      by_hint hint =
+          let like = sym (sealed_written v out room some hint) in
+          let is = like ∙ writer_takes v out room some in
           record {
             short = (λ e. apart (answers is) (answers e) (λ n. omega arith), λ l. absurd (omega arith));
             zero = (λ e. apart (answers is) (answers e) (λ n. omega arith), λ w. absurd (some w.1));
@@ -117,5 +117,5 @@ when_sealed_writer_refuses v out = go (dec_lt (length out) 256) (ℕ_discrete v.
     go : Dec (length out < 256) → Dec (v.size ≡ 0) → (b : Bool) → v.has_hint ≡ b → SealedWriterRefuses v out
     go (yes lt) d b x = by_short v out lt
     go (no ge) (yes z) b x = by_zero v out (omega arith) z
-    go (no ge) (no s) true x = by-hint v out (omega arith) s x
-    go (no ge) (no s) false x = by-no-hint v out (omega arith) s x
+    go (no ge) (no s) true x = by_hint v out (omega arith) s x
+    go (no ge) (no s) false x = by_no_hint v out (omega arith) s x

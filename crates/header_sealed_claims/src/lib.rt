@@ -1,1 +1,3 @@
 // What holds of the sealed profile: statements and proofs only.
+#![tactic(auto)]
+

@@ -1,4 +1,6 @@
 // The walk over the tags of a header, one tag at a time. The header is the whole lent slice, so its length is the slice's.
+#![tactic(auto)]
+
 ghost use Rattle.std.specs.Prelude.{◌≡◌, ◌+◌, ◌*◌, ◌<◌, ◌≤◌, length};
 ghost use Rattle.header_tags.specs.Walk.{item_at, next_item, item_of, walk_at, place_behind};
 
@@ -15,7 +17,7 @@ const PADDING: u8 = 0xFF;
 const END: usize = 0x0000;
 
 // What stands at a place of the header.
-#[derive(Drop)]
+#[derive(Clone, Copy)]
 pub enum Tag {
     Found {
         place: usize,
@@ -92,7 +94,7 @@ pub fn read_tag(h: &[u8], at: usize) -> Tag
 }
 
 // What one look gives: a tag, the end or a refusal, and where the walk goes on.
-#[derive(Drop)]
+#[derive(Clone, Copy)]
 pub struct Look {
     pub tag: Tag,
     pub next: usize,

@@ -1,4 +1,6 @@
 // The walk over a header's tags as a struct: it holds the lent slice and where it stands.
+#![tactic(auto)]
+
 ghost use Rattle.std.specs.Prelude.{◌≡◌};
 ghost use Rattle.header_tags.specs.Walk.{item_of};
 ghost use Rattle.header_walker.specs.Walker.{start_of, walker_answer, walker_after, call_answer};

@@ -1,4 +1,6 @@
 // The writer of a rustBoot header.
+#![tactic(auto)]
+
 ghost use Rattle.std.specs.Prelude.{◌≡◌, ◌+◌, ◌≤◌, ◌<◌, ◌++◌, length};
 ghost use Rattle.header_tags.specs.Bytes.{little_endian, tag_bytes, field_bytes};
 ghost use Rattle.numbers.specs.GivenBack.{writer_answer};

@@ -27,7 +27,7 @@ use Rattle.header_reader.proofs.Answers.{Taken, places_taken, located}
 use Rattle.image.specs.Check.{covered, image_in}
 use Rattle.image.specs.Changed.{Holds, message_of, StatesSame, NineOrCollision, ChangedIsRefused, Change, place, size, byte, version, timestamp, firmware, EachChangeIsRefused, OneDigestOneRelease, BehindHasNoSay, ChangedCallRefuses}
 use Rattle.image.proofs.Covered.{length_covered, before, byte_before, byte_behind, all_bytes}
-use Rattle.image.proofs.Ordered.{digest_place, each_has_digest_tag, tag_within, bytes-room, message-differs, message-same, good-message, good_as_read}
+use Rattle.image.proofs.Ordered.{digest_place, each_has_digest_tag, tag_within, bytes_room, message_differs, message_same, good_message, good_as_read}
 
 -- ---- what is known of one image
 
@@ -43,7 +43,7 @@ module _ {b : List ℕ} {at : ℕ} {v : Header} (h : Holds b at v) where
   in_header = tag_within b at v h.read h.tag
 
   whole : 256 ≤ length b
-  whole = bytes-room b at v h.read h.tag
+  whole = bytes_room b at v h.read h.tag
 
   length_message : length (message_of b at v) ≡ at + v.size
   length_message = length_covered b at v.size (omega (arith, in_header, whole)) h.room
@@ -80,10 +80,10 @@ changed_is_refused b b' at at' v v' s d = go (same (sha256 (message_of b' at' v'
           second = message s.second;
           differ = d;
           digest =
-              good-message b at v s.first.read s.first.tag s.first.room s.good ∙ sym s.digest ∙ sym (same_true _ _ t);
+              good_message b at v s.first.read s.first.tag s.first.room s.good ∙ sym s.digest ∙ sym (same_true _ _ t);
         })
     go false t =
-        inl (message-differs b' at' v' s.second.read s.second.tag s.second.room (λ e. absurd (true≢false (sym (yes e) ∙ t))))
+        inl (message_differs b' at' v' s.second.read s.second.tag s.second.room (λ e. absurd (true≢false (sym (yes e) ∙ t))))
       where
         yes : sha256 (message_of b' at' v') ≡ v'.digest → same (sha256 (message_of b' at' v')) v'.digest ≡ true
         yes e = rw e (same_refl _)
@@ -161,15 +161,15 @@ module _ (b b' : List ℕ) (at at' : ℕ) (v v' : Header) (h : Holds b at v) (h'
   unchanged e (place d) = d (same_place h h' e)
   unchanged e (size d) = d (same_size h h' e)
   unchanged e (byte p lt d) = d (same_byte h h' e p (omega arith))
-  unchanged e (version p tag lt d) = d (stated-version tag)
+  unchanged e (version p tag lt d) = d (stated_version tag)
     where
-      stated-version : TagAt b p 0x0001 ⊎ TagAt b' p 0x0001 → v.version ≡ v'.version
-      stated-version w =
+      stated_version : TagAt b p 0x0001 ⊎ TagAt b' p 0x0001 → v.version ≡ v'.version
+      stated_version w =
           ap (λ (x : Header). x.version) (t h).is ∙ ap number (either h h' e p 0x0001 0 version_row w lt) ∙ sym (ap (λ (x : Header). x.version) (t h').is)
-  unchanged e (timestamp p tag lt d) = d (stated-timestamp tag)
+  unchanged e (timestamp p tag lt d) = d (stated_timestamp tag)
     where
-      stated-timestamp : TagAt b p 0x0002 ⊎ TagAt b' p 0x0002 → v.timestamp ≡ v'.timestamp
-      stated-timestamp w =
+      stated_timestamp : TagAt b p 0x0002 ⊎ TagAt b' p 0x0002 → v.timestamp ≡ v'.timestamp
+      stated_timestamp w =
           ap (λ (x : Header). x.timestamp) (t h).is ∙ ap number (either h h' e p 0x0002 1 timestamp_row w lt) ∙ sym (ap (λ (x : Header). x.timestamp) (t h').is)
   unchanged e (firmware i lt d) = d (same_firmware h h' e i lt)
 
@@ -194,8 +194,8 @@ one_digest_one_release b b' at at' v v' s good = go (same (message_of b at v) (m
 
 pub behind_has_no_say : BehindHasNoSay
 behind_has_no_say b b' at at' v v' h h' d e = (
-  λ g. message-same b' at' v' h'.read h'.tag h'.room (ap sha256 (sym e) ∙ good-message b at v h.read h.tag h.room g ∙ d),
-  λ g. message-same b at v h.read h.tag h.room (ap sha256 e ∙ good-message b' at' v' h'.read h'.tag h'.room g ∙ sym d),
+  λ g. message_same b' at' v' h'.read h'.tag h'.room (ap sha256 (sym e) ∙ good_message b at v h.read h.tag h.room g ∙ d),
+  λ g. message_same b at v h.read h.tag h.room (ap sha256 e ∙ good_message b' at' v' h'.read h'.tag h'.room g ∙ sym d),
 )
 
 pub changed_call_refuses : ChangedCallRefuses

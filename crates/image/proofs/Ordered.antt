@@ -66,21 +66,21 @@ module _ (b : List ℕ) where
 
   -- the digest's test, for a header whose tags stand at these places
   module _ (l : List ℕ) (found : tag_places b ≡ gives l) (fits : (values_in b l).size ≤ length b - 256) where
-    pub digest-differs : sha256 (covered_in b l) ≢ (values_in b l).digest → image_in b ≡ refused 9 256
+    pub digest_differs : sha256 (covered_in b l) ≢ (values_in b l).digest → image_in b ≡ refused 9 256
     unfolding image_in
-    digest-differs d = simp (found, le-ltb _ _ fits, same_no _ _ d)
+    digest_differs d = simp (found, le-ltb _ _ fits, same_no _ _ d)
 
-    pub digest-same : sha256 (covered_in b l) ≡ (values_in b l).digest → image_in b ≡ gives (values_in b l)
+    pub digest_same : sha256 (covered_in b l) ≡ (values_in b l).digest → image_in b ≡ gives (values_in b l)
     unfolding image_in
-    digest-same d = simp (found, le-ltb _ _ fits, same_yes _ _ d)
+    digest_same d = simp (found, le-ltb _ _ fits, same_yes _ _ d)
 
     -- and the other way
-    pub good-digest : image_in b ≡ gives (values_in b l) → sha256 (covered_in b l) ≡ (values_in b l).digest
-    good-digest e = go (same (sha256 (covered_in b l)) (values_in b l).digest) refl
+    pub good_digest : image_in b ≡ gives (values_in b l) → sha256 (covered_in b l) ≡ (values_in b l).digest
+    good_digest e = go (same (sha256 (covered_in b l)) (values_in b l).digest) refl
       where
         go : (t : Bool) → same (sha256 (covered_in b l)) (values_in b l).digest ≡ t → sha256 (covered_in b l) ≡ (values_in b l).digest
         go true t = same_true _ _ t
-        go false t = refused_gives (sym (digest-differs (λ q. absurd (true≢false (sym (same_yes _ _ q) ∙ t)))) ∙ e)
+        go false t = refused_gives (sym (digest_differs (λ q. absurd (true≢false (sym (same_yes _ _ q) ∙ t)))) ∙ e)
 
   -- a good image gives what the reader gives
   pub good_as_read : (v : Header) {u : Header} → read_header b ≡ gives v → image_in b ≡ gives u → image_in b ≡ gives v
@@ -107,41 +107,41 @@ module _ (b : List ℕ) where
     k = places_taken b v read
 
     -- what is known of a header that is read, by the places of its tags
-    pub message-is : covered_in b k.places ≡ covered b at v.size
-    message-is =
+    pub message_is : covered_in b k.places ≡ covered b at v.size
+    message_is =
         ap₂ (covered b) (digest_place k.places at k.found tag) (ap (λ (x : Header). x.size) (sym k.is))
 
     pub tag_within : at + 36 ≤ 256
     tag_within = omega (arith, digest_place k.places at k.found tag, (located b k.places k.found).within.fits 2 (lit< tt))
 
-    pub bytes-room : 256 ≤ length b
-    bytes-room = (located b k.places k.found).room
+    pub bytes_room : 256 ≤ length b
+    bytes_room = (located b k.places k.found).room
 
     module _ (fits : v.size ≤ length b - 256) where
-      pub message-differs : sha256 (covered b at v.size) ≢ v.digest → image_in b ≡ refused 9 256
-      message-differs d =
-          digest-differs k.places k.found (rw k.is at fits)
-          (λ e. d (ap sha256 (sym message-is) ∙ e ∙ ap (λ (x : Header). x.digest) (sym k.is)))
+      pub message_differs : sha256 (covered b at v.size) ≢ v.digest → image_in b ≡ refused 9 256
+      message_differs d =
+          digest_differs k.places k.found (rw k.is at fits)
+          (λ e. d (ap sha256 (sym message_is) ∙ e ∙ ap (λ (x : Header). x.digest) (sym k.is)))
 
-      pub message-same : sha256 (covered b at v.size) ≡ v.digest → image_in b ≡ gives v
-      message-same d =
-          digest-same k.places k.found (rw k.is at fits) (ap sha256 message-is ∙ d ∙ ap (λ (x : Header). x.digest) k.is)
+      pub message_same : sha256 (covered b at v.size) ≡ v.digest → image_in b ≡ gives v
+      message_same d =
+          digest_same k.places k.found (rw k.is at fits) (ap sha256 message_is ∙ d ∙ ap (λ (x : Header). x.digest) k.is)
           ∙ ap gives (sym k.is)
 
-      pub good-message : image_in b ≡ gives v → sha256 (covered b at v.size) ≡ v.digest
-      good-message e =
-          ap sha256 (sym message-is) ∙ good-digest k.places k.found (rw k.is at fits) (e ∙ ap gives k.is)
+      pub good_message : image_in b ≡ gives v → sha256 (covered b at v.size) ≡ v.digest
+      good_message e =
+          ap sha256 (sym message_is) ∙ good_digest k.places k.found (rw k.is at fits) (e ∙ ap gives k.is)
           ∙ ap (λ (x : Header). x.digest) (sym k.is)
 
       module _ (m : List ℕ) (covers : Covers b at v.size m) where
         is : m ≡ covered b at v.size
-        is = covers_is b at v.size (omega (arith, tag_within, bytes-room)) fits m covers
+        is = covers_is b at v.size (omega (arith, tag_within, bytes_room)) fits m covers
 
         differing : sha256 m ≢ v.digest → image_in b ≡ refused 9 256
-        differing d = message-differs (λ e. d (ap sha256 is ∙ e))
+        differing d = message_differs (λ e. d (ap sha256 is ∙ e))
 
-        all-good : sha256 m ≡ v.digest → image_in b ≡ gives v
-        all-good d = message-same (ap sha256 (sym is) ∙ d)
+        all_good : sha256 m ≡ v.digest → image_in b ≡ gives v
+        all_good d = message_same (ap sha256 (sym is) ∙ d)
 
 pub checks_in_order : ChecksInOrder
 checks_in_order b =
@@ -149,7 +149,7 @@ checks_in_order b =
       reader = reader_first b;
       large = too_large b;
       differs = λ at m v read tag fits covers. differing b at v read tag fits m covers;
-      good = λ at m v read tag fits covers. all-good b at v read tag fits m covers;
+      good = λ at m v read tag fits covers. all_good b at v read tag fits m covers;
     }
 
 pub each_has_digest_tag : EachHasDigestTag

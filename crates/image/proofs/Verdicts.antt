@@ -84,8 +84,8 @@ module _ (b places : List ℕ) {z : ℕ} (size : z ≡ (values_in b places).size
         ∙ ap (λ (k : ℕ). same (sha256 (covered b at n)) (take k (drop (at + 4) (take 256 b)))) f
         ∙ ap (λ (p : ℕ). same (sha256 (covered b p n)) (bytes_at (take 256 b) (p + 4) 32)) place)
 
-    pub wrong-digest : t ≡ false → Judges (judged b places) (Bad WrongDigest)
-    wrong-digest no' =
+    pub wrong_digest_lem : t ≡ false → Judges (judged b places) (Bad WrongDigest)
+    wrong_digest_lem no' =
         let e : judged b places ≡ refused 9 256 = simp (le-ltb _ _ (rw size at fits), compared ∙ no') in says _ refl (sym (ap released e))
 
     pub good : {r : Release} → t ≡ true → r ≡ release_of (values_in b places) → Judges (judged b places) (Good r)

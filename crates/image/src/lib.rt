@@ -1,4 +1,6 @@
 // The check of a firmware image: its header, its size and its digest.
+#![tactic(auto)]
+
 ghost use Rattle.std.specs.Prelude.{◌≡◌, ◌≤◌, ◌++◌, length};
 ghost use Rattle.digest_fips180.specs.Sha256.{sha256};
 ghost use Rattle.flash.specs.Sectors.{Partition, firmware_of};
@@ -15,14 +17,14 @@ use header_reader::Header;
 use numbers::{HeaderOutcome, ImageOutcome};
 
 // A good image hands back its header's values. The header of a refusal is blank.
-#[derive(Drop)]
+#[derive(Clone, Copy)]
 pub struct ImageAnswer {
     pub outcome: ImageOutcome,
     pub header: Header,
 }
 
 // What a power-up and its kin need of a good image.
-#[derive(Drop)]
+#[derive(Clone, Copy)]
 pub struct Release {
     pub version: u32,
     // The firmware's size in bytes.
@@ -32,7 +34,7 @@ pub struct Release {
 }
 
 // What the image check finds: a good image, or what is wrong.
-#[derive(Drop)]
+#[derive(Clone, Copy)]
 pub enum ImageVerdict {
     Good(Release),
     Bad(ImageOutcome),
@@ -45,7 +47,7 @@ fn has_digest(before: &[u8], firmware: &[u8], stated: &[u8]) -> bool
     ensures { result ≡ same (sha256 (before.now ++ firmware.now)) stated.now }
 {
     let digest = digest_sha256::digest_of_two(before, firmware);
-    check::same(&digest, stated)
+    digest[..] == *stated
 }
 
 // The release of a header whose tags stand at these places.

@@ -1,4 +1,6 @@
 // Lists the header at the start of standard input.
+#![tactic(auto)]
+
 use libc::{STDIN_FILENO, STDOUT_FILENO};
 
 fn main() {

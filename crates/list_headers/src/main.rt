@@ -1,4 +1,6 @@
 // Lists the headers that stand one behind another in standard input, 256 bytes each.
+#![tactic(auto)]
+
 use libc::{STDIN_FILENO, STDOUT_FILENO};
 
 // As many as are read at most.

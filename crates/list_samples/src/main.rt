@@ -1,4 +1,6 @@
 // Lists the headers at the start of the files that its arguments name, each below the file's name.
+#![tactic(auto)]
+
 use libc::STDOUT_FILENO;
 
 fn list_file(name: &[u8]) {

@@ -1,4 +1,6 @@
 // The listing of a header as text: its fields by name, or the line of a refusal.
+#![tactic(auto)]
+
 ghost use Rattle.std.specs.Prelude.{◌≡◌};
 ghost use Rattle.listing.specs.Listing.{Lists};
 

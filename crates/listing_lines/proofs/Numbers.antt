@@ -42,10 +42,10 @@ larger n j k f g h =
 
 -- the largest number of 64 bits has 20 digits
 pub at_most_20 : (n k : ℕ) → n < 2 ^ 64 → IsDigitCount 10 1 n k → k ≤ 20
-at_most_20 n k fits f = omega (arith, more-than-20)
+at_most_20 n k fits f = omega (arith, more_than_20)
   where
-    more-than-20 : 20 < k → ⊥
-    more-than-20 h =
+    more_than_20 : 20 < k → ⊥
+    more_than_20 h =
         let low = f.2 (omega arith) in
         let grows = pow-le-pow_right {n = 10} (omega arith) {i = 20} {j = k - 1} (omega arith) in
         omega arith

@@ -1,4 +1,6 @@
 // Lines of text: a header's fields by name, and the line of a refusal.
+#![tactic(auto)]
+
 ghost use Rattle.std.specs.Prelude.{◌+◌, ◌≤◌, length};
 ghost use Rattle.listing_lines.specs.Lines.{named, line, hint, fields, refusal};
 ghost use Rattle.output.specs.Puts.{Puts};

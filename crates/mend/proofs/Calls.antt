@@ -32,14 +32,14 @@ mend_new Success = refl
 module _ (g : Geometry) (f : Flash) where
   -- ---- by the mark that was found
   module _ (r : FoundMark) (e : found_or r (refused 17 0) ≡ first_mark g f) where
-    pub mark-written : (k : Mark) (v : List ℕ) (n : ℕ) → r ≡ First k → Wrote g k f.update v n
+    pub mark_written : (k : Mark) (v : List ℕ) (n : ℕ) → r ≡ First k → Wrote g k f.update v n
         → record { answer = gives (given k n); flash = flash f.boot v f.swap } ≡ mend_after g f (gives tt)
-    mark-written k v n q w =
+    mark_written k v n q w =
         ap₂ (λ (x : List ℕ) (c : ℕ). record { answer = gives (given k c); flash = flash f.boot x f.swap }) w.bytes w.count
         ∙ ap (with_mark g f) (ap (λ (x : FoundMark). found_or x (refused 17 0)) (sym q) ∙ e)
 
-    pub no-mark : r ≡ None → record { answer = refused 17 0; flash = f } ≡ mend_after g f (gives tt)
-    no-mark q = ap (with_mark g f) (ap (λ (x : FoundMark). found_or x (refused 17 0)) (sym q) ∙ e)
+    pub no_mark : r ≡ None → record { answer = refused 17 0; flash = f } ≡ mend_after g f (gives tt)
+    no_mark q = ap (with_mark g f) (ap (λ (x : FoundMark). found_or x (refused 17 0)) (sym q) ∙ e)
 
   -- ---- by what the checks decided
   pub permitted : (p q : MendPermit) → permit_of p ≡ permit_at g f.boot f.update → p ≡ q

@@ -1,4 +1,6 @@
 // Mending lost sector flags in UPDATE, beside BOOT and SWAP, which are only read.
+#![tactic(auto)]
+
 ghost use Rattle.std.specs.Prelude.{◌≡◌};
 ghost use Rattle.numbers.specs.Answer.{gives};
 ghost use Rattle.flash.specs.Sectors.{Partition};
@@ -14,14 +16,14 @@ use mending_search::FoundMark;
 use numbers::MendRefusal;
 
 // What mending answers: the mark whose flags stand now and how many flag bytes differ from before, or a refusal.
-#[derive(Drop)]
+#[derive(Clone, Copy)]
 pub enum MendAnswer {
     Mended { mark: Mark, bytes: usize },
     Refused(MendRefusal),
 }
 
 // Whether the marks are looked at.
-#[derive(Drop)]
+#[derive(Clone, Copy)]
 enum MendPermit {
     Granted,
     Denied(MendRefusal),

@@ -1,5 +1,7 @@
 // Mends a flash whose flag bytes were spoiled, request two of document 02: an update from version 7 to 8 after every number of operations,
 // with each of 256 values in the flag bytes; then what is refused.
+#![tactic(auto)]
+
 use digest_sha256::Hasher;
 use header_reader::Header;
 use libc::STDOUT_FILENO;
@@ -130,7 +132,7 @@ fn tell(n: usize, answer: MendAnswer) -> [u8; 4] {
 
 // Of some mendings: the last answer's number, sector and flag, and how many in a row had them; how often no flag byte differed, one, or two;
 // how often the last half byte stayed; and the hash of all answers and of UPDATE's bytes after each.
-#[derive(Drop)]
+#[derive(Clone, Copy)]
 struct Tally {
     number: u8,
     sector: u8,

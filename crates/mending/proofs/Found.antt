@@ -28,7 +28,7 @@ use Rattle.mending.specs.OldImages.{fits_mark}
 use Rattle.mending.specs.Mending.{first_fitting, may_mend, found, set_flags, changed, Given, given, Mend, with_mark, mending}
 use Rattle.mending.specs.Mended.{GivesIfFits, GivesFirst, MayMend, NoneFits, SeventeenIfNone, MendRefusedFirst, RefusesInOrder, MendNumber, as_arm, no_mark_fits, RefusesWith, ButFlags, OnlyFlags, WritesFlags, bytes_differing, CountsBytes, FlagsNotRead, mark_of}
 use Rattle.mending.proofs.Order.{given_first, refused_none, none_refused, before_moves, some_given}
-use Rattle.mending.proofs.Images.{fits_true, true_fits, false_not, not_false, but-fits}
+use Rattle.mending.proofs.Images.{fits_true, true_fits, false_not, not_false, but_fits}
 use Rattle.mending.proofs.Counted.{all_counted_lem}
 use Rattle.mending.proofs.Written.{only_flags}
 
@@ -294,7 +294,7 @@ same_found check g f f' R E = by (fits g f) refl
     by : (t : Bool) → fits g f ≡ t → found check g f' ≡ found check g f
     by true e =
         let S : Shaped g f = shaped_of g f e in
-        let q : fits_mark check g f' ≡ fits_mark check g f = λ i k. but-fits g f f' S E check R k i in
+        let q : fits_mark check g f' ≡ fits_mark check g f = λ i k. but_fits g f f' S E check R k i in
         ap₂ (λ (c : Answer (Unit {0})) (p : Mark → Bool). then c (λ t. first_fitting p (marks (firmware g)))) (but_checked g f f' E S.limits) q
     by false e = rw (but_fit g f f' E, e)
 

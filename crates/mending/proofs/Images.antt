@@ -64,37 +64,37 @@ module _ (g : Geometry) (f : Flash) (S : Shaped g f) where
 
   module _ (image : OldImage) (k : Mark) where
     -- each sector of an old image is whole
-    pub old-sector-length : (i : ℕ) → i < firmware g → length (old_sector g image k f i) ≡ g.size
-    old-sector-length i h = get_length (place_of image (flag_under k i)) i (omega arith)
+    pub old_sector_length : (i : ℕ) → i < firmware g → length (old_sector g image k f i) ≡ g.size
+    old_sector_length i h = get_length (place_of image (flag_under k i)) i (omega arith)
 
     -- its firmware sectors, and all of it
-    pub old-firmware-length : length (joined (old_sector g image k f) (firmware g)) ≡ firmware g * g.size
-    old-firmware-length = length_joined (old_sector g image k f) g.size (firmware g) old-sector-length
+    pub old_firmware_length : length (joined (old_sector g image k f) (firmware g)) ≡ firmware g * g.size
+    old_firmware_length = length_joined (old_sector g image k f) g.size (firmware g) old_sector_length
 
-    pub old-length : length (old_partition g image k f) ≡ partition_size g
+    pub old_length : length (old_partition g image k f) ≡ partition_size g
     unfolding old_partition
-    old-length =
+    old_length =
         omega (
           arith,
           length-append (joined (old_sector g image k f) (firmware g)) (get g (own_area image) (firmware g) f),
-          old-firmware-length,
+          old_firmware_length,
           get_length (own_area image) (firmware g) (omega arith),
           size_split g S.limits,
         )
 
-    pub old-firmware : firmware_of g (old_partition g image k f) ≡ joined (old_sector g image k f) (firmware g)
+    pub old_firmware : firmware_of g (old_partition g image k f) ≡ joined (old_sector g image k f) (firmware g)
     unfolding old_partition
-    old-firmware = take_at (joined (old_sector g image k f) (firmware g)) (get g (own_area image) (firmware g) f) (firmware g * g.size) old-firmware-length
+    old_firmware = take_at (joined (old_sector g image k f) (firmware g)) (get g (own_area image) (firmware g) f) (firmware g * g.size) old_firmware_length
 
-    pub old-sector : (i : ℕ) → i < firmware g → sector_of g i (old_partition g image k f) ≡ old_sector g image k f i
+    pub old_sector_lem : (i : ℕ) → i < firmware g → sector_of g i (old_partition g image k f) ≡ old_sector g image k f i
     unfolding old_partition
-    old-sector i h = part_joined (old_sector g image k f) g.size (firmware g) (get g (own_area image) (firmware g) f) old-sector-length i h
+    old_sector_lem i h = part_joined (old_sector g image k f) g.size (firmware g) (get g (own_area image) (firmware g) f) old_sector_length i h
 
 pub shown_by_tables : ShownByTables
 shown_by_tables g k f S = record {
-  shaped = record { limits = S.limits; boot = old-length g f S BootImage k; update = old-length g f S UpdateImage k; swap = S.swap };
-  boot = old-sector g f S BootImage k;
-  update = old-sector g f S UpdateImage k;
+  shaped = record { limits = S.limits; boot = old_length g f S BootImage k; update = old_length g f S UpdateImage k; swap = S.swap };
+  boot = old_sector_lem g f S BootImage k;
+  update = old_sector_lem g f S UpdateImage k;
 }
 
 -- ---- the test of a mark
@@ -155,12 +155,12 @@ module _ (g : Geometry) (f f' : Flash) (S : Shaped g f) (E : ButFlags g f f') wh
   but_get Swap i h = E.swap
 
   module _ (check : Check) (R : ReadsFirmware check g) where
-    pub but-fits : (k : Mark) → fits_mark check g f' k ≡ fits_mark check g f k
+    pub but_fits : (k : Mark) → fits_mark check g f' k ≡ fits_mark check g f k
     unfolding fits_mark
-    but-fits k =
+    but_fits k =
         ap₂ greater (same UpdateImage) (same BootImage)
       where
         same : (image : OldImage) → check g (old_partition g image k f') ≡ check g (old_partition g image k f)
         same image =
-            check_same check g R (old_partition g image k f') (old_partition g image k f) (old-length g f' but_shaped image k) (old-length g f S image k)
-            (λ i h. old-sector g f' but_shaped image k i h ∙ but_get (place_of image (flag_under k i)) i h ∙ sym (old-sector g f S image k i h))
+            check_same check g R (old_partition g image k f') (old_partition g image k f) (old_length g f' but_shaped image k) (old_length g f S image k)
+            (λ i h. old_sector_lem g f' but_shaped image k i h ∙ but_get (place_of image (flag_under k i)) i h ∙ sym (old_sector_lem g f S image k i h))

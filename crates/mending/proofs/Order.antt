@@ -277,10 +277,10 @@ module _ (fit : Mark → Bool) (m : ℕ) where
   pub some_given : (j : Mark) → Among m j → fit j ≡ true → Gives j (first_fitting fit (marks m))
   some_given j h t = by (first_fitting fit (marks m)) refl
     where
-      no-later : (k : Mark) → First fit m 0 k → Dec (moves_of m j < moves_of m k) → moves_of m k ≤ moves_of m j
-      no-later k y (yes l) = let f : fit j ≡ false = y.before j h (omega arith) l in absurd (let z : ◌≡◌ {A = ℕ} 0 1 = cc in omega arith)
-      no-later k y (no l) = omega arith
+      no_later : (k : Mark) → First fit m 0 k → Dec (moves_of m j < moves_of m k) → moves_of m k ≤ moves_of m j
+      no_later k y (yes l) = let f : fit j ≡ false = y.before j h (omega arith) l in absurd (let z : ◌≡◌ {A = ℕ} 0 1 = cc in omega arith)
+      no_later k y (no l) = omega arith
 
       by : (r : Answer Mark) → first_fitting fit (marks m) ≡ r → Gives j r
-      by (gives k) e = record { mark = k; gave = refl; not_later = no-later k (given_first k e) (dec_lt (moves_of m j) (moves_of m k)) }
+      by (gives k) e = record { mark = k; gave = refl; not_later = no_later k (given_first k e) (dec_lt (moves_of m j) (moves_of m k)) }
       by (refused n p) e = let f : fit j ≡ false = refused_none n p e j h in absurd (let z : ◌≡◌ {A = ℕ} 0 1 = cc in omega arith)

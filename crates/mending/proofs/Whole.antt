@@ -41,7 +41,7 @@ use Rattle.mending.specs.OldImages.{old_flash, Fits, fits_mark}
 use Rattle.mending.specs.Mending.{first_fitting, found, set_flags, changed, given, Mend, mending}
 use Rattle.mending.specs.Mended.{ShownByTable, MendedOngoing, MendedSafe, FirstToFit, MayMend, ButFlags, OnlyFlags, ReadAs, GivesMark, SpoiledMends, StagesMend, MendsOnce}
 use Rattle.mending.proofs.Order.{flag_moved, moves_within, After, mark_after, Gives, some_given}
-use Rattle.mending.proofs.Images.{shown_by_tables, fits_true, but_shaped, but_get, but-fits}
+use Rattle.mending.proofs.Images.{shown_by_tables, fits_true, but_shaped, but_get, but_fits}
 use Rattle.mending.proofs.Written.{set_again, none_changed}
 use Rattle.mending.proofs.Found.{found_by, found_mark, mend_found, mend_by, with_flags, flash_left_lem, may_shaped, writes, but_status, but_may, same_found, gives_first}
 
@@ -183,7 +183,7 @@ module _ (check : Check) (g : Geometry) (old f f' : Flash) (a : ℕ) (R : ReadsF
           o.stands.flags i h ∙ ap (λ (b : ℕ). Known (moved (b - 3 * i))) (sym w.moves) ∙ ap Known (sym (flag_moved (firmware g) w.mark i h))
 
       r : Gives (fits_mark check g f') (firmware g) w.mark (first_fitting (fits_mark check g f') (marks (firmware g)))
-      r = some_given (fits_mark check g f') (firmware g) w.mark w.among (but-fits g f f' S E check R w.mark ∙ fits_true check g f w.mark (true_mark w.mark shown))
+      r = some_given (fits_mark check g f') (firmware g) w.mark w.among (but_fits g f f' S E check R w.mark ∙ fits_true check g f w.mark (true_mark w.mark shown))
 
 pub spoiled_mends : SpoiledMends
 spoiled_mends check g f₀ es b f R s h n U e E =

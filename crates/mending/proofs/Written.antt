@@ -16,7 +16,7 @@ use Rattle.flash_flags.specs.declared.Flag.TheVariants.{Untouched, Saved, Moved,
 use Rattle.flash_flags.specs.declared.FlagRead.TheVariants.{Known}
 use Rattle.flash_flags.specs.SectorFlags.{flag_value, flag_of, flag_byte, half, with_half, flag_at, set_flag}
 use Rattle.flash_flags.proofs.Halves.{half_even, half_odd, with_even, with_odd}
-use Rattle.flash_flags.proofs.Laws.{reads_flag, length-flag, byte_flag, half-flag, flag_same, flag-other}
+use Rattle.flash_flags.proofs.Laws.{reads_flag, length_flag, byte_flag, half_flag, flag_same, flag_other}
 use Rattle.mending.specs.declared.Mark.{Mark}
 use Rattle.mending.specs.Marks.{flag_under}
 use Rattle.mending.specs.Mending.{set_flags_to, set_flags, differing, changed}
@@ -62,7 +62,7 @@ module _ (g : Geometry) (G : Limits g) (k : Mark) (u : List ℕ) (U : length u �
   length_to zero h = refl
   length_to (suc n) h =
       let e : length (set_flags_to g k n u) ≡ length u = length_to n (omega arith) in
-      length-flag g G (set_flags_to g k n u) (e ∙ U) n (flag_under k n) (omega arith) ∙ e
+      length_flag g G (set_flags_to g k n u) (e ∙ U) n (flag_under k n) (omega arith) ∙ e
 
   pub byte_to : (n : ℕ) → n ≤ firmware g → (p : ℕ) → ((i : ℕ) → i < n → p ≢ flag_byte g i) → get_or (set_flags_to g k n u) p 0 ≡ get_or u p 0
   unfolding set_flags_to
@@ -74,7 +74,7 @@ module _ (g : Geometry) (G : Limits g) (k : Mark) (u : List ℕ) (U : length u �
   unfolding set_flags_to
   half_to zero h = refl
   half_to (suc n) h =
-      half-flag g G (set_flags_to g k n u) (length_to n (omega arith) ∙ U) n (flag_under k n) (omega arith) (firmware g) (omega arith) (λ e. absurd (omega arith))
+      half_flag g G (set_flags_to g k n u) (length_to n (omega arith) ∙ U) n (flag_under k n) (omega arith) (firmware g) (omega arith) (λ e. absurd (omega arith))
       ∙ half_to n (omega arith)
 
   flag_to : (n : ℕ) → n ≤ firmware g → (j : ℕ) → j < n → flag_at g (set_flags_to g k n u) j ≡ Known (flag_under k j)
@@ -89,7 +89,7 @@ module _ (g : Geometry) (G : Limits g) (k : Mark) (u : List ℕ) (U : length u �
       by (yes e) below =
           ap (flag_at g (set_flag g n (flag_under k n) (set_flags_to g k n u))) e ∙ flag_same g G (set_flags_to g k n u) L n (flag_under k n) (omega arith)
           ∙ ap (λ (i : ℕ). Known (flag_under k i)) (sym e)
-      by (no e) below = flag-other g G (set_flags_to g k n u) L n (flag_under k n) (omega arith) j (omega arith) e ∙ below (omega arith)
+      by (no e) below = flag_other g G (set_flags_to g k n u) L n (flag_under k n) (omega arith) j (omega arith) e ∙ below (omega arith)
 
   -- where the flags are there already
   same_to : ((j : ℕ) → j < firmware g → flag_at g u j ≡ Known (flag_under k j)) → (n : ℕ) → n ≤ firmware g → set_flags_to g k n u ≡ u

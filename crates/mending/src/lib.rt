@@ -1,4 +1,6 @@
 // Mending lost sector flags, request two of document 02: the marks at which they may have stood, and in specs/ the rules.
+#![tactic(auto)]
+
 ghost use Rattle.std.specs.Prelude.{◌≡◌};
 ghost use Rattle.mending.specs.declared.Mark.TheVariants.{At};
 ghost use Rattle.mending.specs.Marks.{flag_under};
@@ -10,7 +12,7 @@ use flash_flags::{Flag, Leg};
 
 // Document 02's mark: where an exchange may have stood when its flags were lost. At a sector, whose flag shows the leg, with 0 before it
 // and F after it; or at its end, with all flags 0.
-#[derive(Drop)]
+#[derive(Clone, Copy)]
 pub enum Mark {
     At(SectorNumber, Leg),
     All0,
@@ -42,7 +44,7 @@ impl Mark {
 }
 
 // One of the two images that the exchange began with.
-#[derive(Drop)]
+#[derive(Clone, Copy)]
 pub enum OldImage {
     Boot,
     Update,

@@ -69,16 +69,16 @@ module _ (g : Geometry) (k : Mark) (u : List ℕ) where
         ∙ byte_to g U.limits k u U.whole (2 * n) (omega arith) (flag_byte g (2 * n)) (λ i l q. omega (arith, same_flag_byte g U.limits (2 * n) i (omega arith) (omega arith) q))
 
     -- and those of the turns before stay
-    bytes-behind : (v w : List ℕ) (d n j : ℕ) → j < n → WrotePair g k n v w d → length v ≡ partition_size g → 2 * n < firmware g
+    bytes_behind : (v w : List ℕ) (d n j : ℕ) → j < n → WrotePair g k n v w d → length v ≡ partition_size g → 2 * n < firmware g
         → get_or w (flag_byte g (2 * j)) 0 ≡ get_or v (flag_byte g (2 * j)) 0
-    bytes-behind v w d n j l W L h = ap (λ (x : List ℕ). get_or x (flag_byte g (2 * j)) 0) W.bytes ∙ byte_pair g k n U.limits j (omega arith) (omega arith) v L h
+    bytes_behind v w d n j l W L h = ap (λ (x : List ℕ). get_or x (flag_byte g (2 * j)) 0) W.bytes ∙ byte_pair g k n U.limits j (omega arith) (omega arith) v L h
 
-    pub passed-more : (v w : List ℕ) (c d n : ℕ) → Passed g k u v c n → 2 * n < firmware g → WrotePair g k n v w d → Passed g k u w (c + d) (n + 1)
+    pub passed_more : (v w : List ℕ) (c d n : ℕ) → Passed g k u v c n → 2 * n < firmware g → WrotePair g k n v w d → Passed g k u w (c + d) (n + 1)
     unfolding differing
-    passed-more v w c d n P h W =
+    passed_more v w c d n P h W =
         let e : v ≡ set_flags_to g k (2 * n) u = P.bytes ∙ ap (λ (x : ℕ). set_flags_to g k x u) (omega arith) in
         let L : length v ≡ partition_size g = passed_length v c n P ∙ U.whole in
-        let old : differing g u w n ≡ differing g u v n = same_count g u v w n (λ j l. bytes-behind v w d n j l W L h) in
+        let old : differing g u w n ≡ differing g u v n = same_count g u v w n (λ j l. bytes_behind v w d n j l W L h) in
         let one : n + 1 ≡ suc n = omega arith in
         record {
           most = omega arith;

@@ -11,7 +11,7 @@ use Rattle.flash.specs.declared.Geometry.{Geometry}
 use Rattle.flash.specs.Sizes.{firmware, partition_size, Limits}
 use Rattle.flash_flags.specs.declared.Flag.{Flag}
 use Rattle.flash_flags.specs.SectorFlags.{flag_byte, set_flag}
-use Rattle.flash_flags.proofs.Laws.{same_flag_byte, length-flag, byte_flag}
+use Rattle.flash_flags.proofs.Laws.{same_flag_byte, length_flag, byte_flag}
 use Rattle.mending.specs.declared.Mark.{Mark}
 use Rattle.mending.specs.Marks.{flag_under}
 use Rattle.mending.specs.Mending.{set_flags_to}
@@ -65,5 +65,5 @@ module _ (g : Geometry) (k : Mark) (n : ℕ) where
         by : Dec (2 * n + 1 < firmware g) → get_or (set_pair g k n u) (flag_byte g (2 * j)) 0 ≡ get_or u (flag_byte g (2 * j)) 0
         by (yes l) =
             rw (lt-ltb (2 * n + 1) (firmware g) l)
-            (byte_one (set_one g k (2 * n) u) (length-flag g G u U (2 * n) (flag_under k (2 * n)) h ∙ U) (2 * n + 1) l (omega arith) ∙ first)
+            (byte_one (set_one g k (2 * n) u) (length_flag g G u U (2 * n) (flag_under k (2 * n)) h ∙ U) (2 * n + 1) l (omega arith) ∙ first)
         by (no l) = rw (le-ltb (2 * n + 1) (firmware g) (omega arith)) first

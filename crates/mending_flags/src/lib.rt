@@ -1,4 +1,6 @@
 // Writing the flags of a mark, and counting the flag bytes that differ then.
+#![tactic(auto)]
+
 ghost use Rattle.std.specs.Prelude.{◌≡◌, ◌*◌, ◌<◌};
 ghost use Rattle.flash.specs.Sizes.{firmware};
 ghost use Rattle.flash.specs.Sectors.{Partition};

@@ -32,7 +32,7 @@ use Rattle.mending.specs.declared.OldImage.{OldImage}
 use Rattle.mending.specs.declared.OldImage.TheVariants.{Boot, Update}
 use Rattle.mending.specs.Marks.{flag_under}
 use Rattle.mending.specs.OldImages.{place_of, old_sector, joined, old_partition, greater, fits_mark}
-use Rattle.mending.proofs.Images.{old-sector-length, old-firmware-length, old-firmware}
+use Rattle.mending.proofs.Images.{old_sector_length, old_firmware_length, old_firmware}
 use Rattle.mending_images.specs.declared.Claim.{Claim}
 use Rattle.mending_images.specs.declared.Claimed.{Claimed}
 use Rattle.mending_images.specs.declared.Claimed.TheVariants.{States, Nothing}
@@ -139,12 +139,12 @@ module _ (g : Geometry) (f : Flash) (S : Shaped g f) where
   checked_old image k =
       let h : List ℕ = old_sector g image k f 0 in
       let b : List ℕ = old_bytes g image k f in
-      let lh : length h ≡ g.size = old-sector-length g f S image k 0 (some_firmware g S.limits) in
-      let lb : length b ≡ firmware g * g.size = old-firmware-length g f S image k in
+      let lh : length h ≡ g.size = old_sector_length g f S image k 0 (some_firmware g S.limits) in
+      let lb : length b ≡ firmware g * g.size = old_firmware_length g f S image k in
       let one : g.size ≤ firmware g * g.size = omega (arith, sector_end g.size 0 (firmware g) (some_firmware g S.limits)) in
       let c : Checked b (claim_in (length b) h) (version_in b) =
       checked b h (omega (arith, S.limits.small)) (omega (arith, S.limits.small)) (sym (in_first g f S image k 0 256 (omega arith))) in
-      subst (λ (l : List ℕ). Checked b (claim_in (firmware g * g.size) h) (version_in l)) (sym (old-firmware g f S image k))
+      subst (λ (l : List ℕ). Checked b (claim_in (firmware g * g.size) h) (version_in l)) (sym (old_firmware g f S image k))
       (subst (λ (n : ℕ). Checked b (claim_in n h) (version_in b)) lb c)
 
   pub fits_by_lem : (k : Mark) → fits_mark check_of g f k ≡ fits_by g k f (claims_under g k f)

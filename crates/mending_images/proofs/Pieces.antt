@@ -20,10 +20,10 @@ use Rattle.mending_images.specs.Parts.{firmware_in}
 
 pub drop_take : (a z : ℕ) (l : List ℕ) → drop a (take z l) ≡ take (z - a) (drop a l)
 drop_take zero z l = let e : z - 0 ≡ z = omega arith in ap (λ (k : ℕ). take k l) (sym e)
-drop_take (suc a) z [] = drop-nil' (suc a) (take z []) (take-nil z) ∙ sym (take-nil (z - suc a))
+drop_take (suc a) z [] = drop_nil' (suc a) (take z []) (take-nil z) ∙ sym (take-nil (z - suc a))
   where
-    drop-nil' : (n : ℕ) (x : List ℕ) → x ≡ [] → drop n x ≡ []
-    drop-nil' n x e = ap (drop n) e ∙ drop-nil n
+    drop_nil' : (n : ℕ) (x : List ℕ) → x ≡ [] → drop n x ≡ []
+    drop_nil' n x e = ap (drop n) e ∙ drop-nil n
 drop_take (suc a) zero (x ∷ l) = let e : 0 - suc a ≡ 0 = omega arith in drop-nil (suc a) ∙ sym (ap (λ (k : ℕ). take k (drop a l)) e)
 drop_take (suc a) (suc z) (x ∷ l) = let e : suc z - suc a ≡ z - a = omega arith in drop_take a z l ∙ sym (ap (λ (k : ℕ). take k (drop a l)) e)
 
@@ -143,8 +143,8 @@ module _ (s : ℕ → List ℕ) (z : ℕ) where
           take-append-le (n * z) (joined s m) (s m) (omega (arith, length_joined s z m (λ i k. L i (omega arith)), mul-le-mul_right z l)) ∙ below l
 
   module _ (at m : ℕ) (A : at ≤ 256) (B : 256 ≤ z) (L : (i : ℕ) → i < m → length (s i) ≡ z) where
-    first-length : (n : ℕ) → n ≤ m → length (joined s n) ≡ n * z
-    first-length n h = length_joined s z n (λ i l. L i (omega arith))
+    first_length : (n : ℕ) → n ≤ m → length (joined s n) ≡ n * z
+    first_length n h = length_joined s z n (λ i l. L i (omega arith))
 
     -- sector n, with what its firmware has before place e
     covered_next : (e n : ℕ) → n < m → 256 ≤ e → n * z ≤ e → covered (joined s (suc n)) at (e - 256) ≡ covers_before s z at n ++ firmware_in z n e (s n)
@@ -156,7 +156,7 @@ module _ (s : ℕ → List ℕ) (z : ℕ) where
     covered_next e (suc i) l E h =
         let n : ℕ = suc i in
         let J : List ℕ = joined s n in
-        let k : length J ≡ n * z = first-length n (omega arith) in
+        let k : length J ≡ n * z = first_length n (omega arith) in
         let one : z ≤ n * z = omega (arith, suc-mul i z) in
         let d : length (drop 256 J) ≡ n * z - 256 = length-drop 256 J ∙ ap (λ (x : ℕ). x - 256) k in
         let q : e - 256 ≡ length (drop 256 J) + (e - n * z) = omega arith in
@@ -169,8 +169,8 @@ module _ (s : ℕ → List ℕ) (z : ℕ) where
         ∙ sym (append_assoc (take at J) (take (n * z - 256) (drop 256 J)) (firmware_in z n e (s n)))
 
     -- the image up to place e, in sector n
-    pub covered-all : (e n : ℕ) → n < m → 256 ≤ e → n * z ≤ e → e ≤ suc n * z → covered (joined s m) at (e - 256) ≡ covers_before s z at n ++ firmware_in z n e (s n)
-    covered-all e n l E h k =
+    pub covered_all : (e n : ℕ) → n < m → 256 ≤ e → n * z ≤ e → e ≤ suc n * z → covered (joined s m) at (e - 256) ≡ covers_before s z at n ++ firmware_in z n e (s n)
+    covered_all e n l E h k =
         sym (covered_front (joined s m) (suc n * z) at (e - 256) (omega arith) (omega arith))
         ∙ ap (λ (b : List ℕ). covered b at (e - 256)) (joined_front (suc n) m l L) ∙ covered_next e n l E h
 
@@ -178,37 +178,37 @@ module _ (s : ℕ → List ℕ) (z : ℕ) where
     pub covered_whole : (e n : ℕ) → n < m → suc n * z ≤ e → covered (joined s (suc n)) at (suc n * z - 256) ≡ covers_before s z at n ++ firmware_in z n e (s n)
     covered_whole e n l h =
         let J : List ℕ = joined s (suc n) in
-        let d : length (drop 256 J) ≡ suc n * z - 256 = length-drop 256 J ∙ ap (λ (x : ℕ). x - 256) (first-length (suc n) l) in
+        let d : length (drop 256 J) ≡ suc n * z - 256 = length-drop 256 J ∙ ap (λ (x : ℕ). x - 256) (first_length (suc n) l) in
         let q : take (suc n * z - 256) (drop 256 J) ≡ take (e - 256) (drop 256 J) =
         take_all (suc n * z - 256) (drop 256 J) (omega arith) ∙ sym (take_all (e - 256) (drop 256 J) (omega arith)) in
         ap (λ (x : List ℕ). take at J ++ x) q ∙ covered_next e n l (omega (arith, suc-mul n z)) (omega (arith, suc-mul n z))
 
     -- what is left behind the blocks of the sectors up to sector i: where they are the header alone, the end of what the digest covers of it
-    pub left-in-header : (i : ℕ) → i < m → suc i * z ≡ 256
+    pub left_in_header : (i : ℕ) → i < m → suc i * z ≡ 256
         → take (at - (at - at % 64)) (drop (at - at % 64) (s i)) ≡ left_of (covered (joined s (suc i)) at (suc i * z - 256))
     unfolding joined
-    left-in-header zero l e =
+    left_in_header zero l e =
         let n : 1 * z - 256 ≡ 0 = omega arith in
         sym (ap (λ (x : ℕ). left_of (take at (s 0) ++ take x (drop 256 (s 0)))) n ∙ ap left_of (append-nil (take at (s 0)))
         ∙ left_front at (s 0) (omega (arith, L 0 l)))
-    left-in-header (suc i) l e = absurd (omega (arith, suc-mul (suc i) z, suc-mul i z))
+    left_in_header (suc i) l e = absurd (omega (arith, suc-mul (suc i) z, suc-mul i z))
 
     module _ (Z : z % 64 ≡ 0) where
       -- whole sectors are whole blocks
-      sectors-even : (n : ℕ) → (n * z) % 64 ≡ 0
-      sectors-even zero = omega (arith, zero-mul z)
-      sectors-even (suc n) = omega (arith, suc-mul n z, sectors-even n)
+      sectors_even : (n : ℕ) → (n * z) % 64 ≡ 0
+      sectors_even zero = omega (arith, zero-mul z)
+      sectors_even (suc n) = omega (arith, suc-mul n z, sectors_even n)
 
       -- else the end of sector i
-      pub left-in-sector : (i : ℕ) → i < m → ¬ (suc i * z ≡ 256)
+      pub left_in_sector : (i : ℕ) → i < m → ¬ (suc i * z ≡ 256)
           → take (length (s i) - (z - at % 64)) (drop (z - at % 64) (s i)) ≡ left_of (covered (joined s (suc i)) at (suc i * z - 256))
       unfolding joined
-      left-in-sector i l other =
+      left_in_sector i l other =
           let r : ℕ = at % 64 in
           let J : List ℕ = joined s (suc i) in
-          let k : length J ≡ suc i * z = first-length (suc i) l in
-          let from : length J - r ≡ length (joined s i) + (z - r) = omega (arith, suc-mul i z, first-length i (omega arith)) in
+          let k : length J ≡ suc i * z = first_length (suc i) l in
+          let from : length J - r ≡ length (joined s i) + (z - r) = omega (arith, suc-mul i z, first_length i (omega arith)) in
           take_all (length (s i) - (z - r)) (drop (z - r) (s i)) (omega (arith, length-drop (z - r) (s i)))
           ∙ sym (ap (λ (x : ℕ). left_of (covered J at (x - 256))) (sym k)
-          ∙ left_end J at (omega (arith, sectors-even (suc i))) (omega (arith, suc-mul i z)) A
+          ∙ left_end J at (omega (arith, sectors_even (suc i))) (omega (arith, suc-mul i z)) A
           ∙ ap (λ (x : ℕ). drop x J) from ∙ drop-append-add (joined s i) (s i) (z - r))

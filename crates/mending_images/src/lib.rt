@@ -1,5 +1,7 @@
 // The check of the two old images that a mark shows, where their sectors lie in the three buffers: first what the headers state, then
 // the digests, sector by sector.
+#![tactic(auto)]
+
 ghost use Rattle.std.specs.Prelude.{◌≡◌, ◌&&◌, ◌+◌, min, ◌≤◌, ◌<◌, length};
 ghost use Rattle.mending.specs.declared.OldImage.TheVariants.{Boot, Update};
 ghost use Rattle.mending_images.specs.declared.Claims.TheVariants.{Newer};
@@ -62,7 +64,7 @@ fn old_sector<'a>(
 // ---- what the headers state
 
 // What an image's header states: its version, where the firmware behind it ends, and where the digest's tag begins.
-#[derive(Drop)]
+#[derive(Clone, Copy)]
 pub struct Claim {
     pub version: u32,
     pub end: usize,
@@ -70,7 +72,7 @@ pub struct Claim {
 }
 
 // What a header states, if it is taken.
-#[derive(Drop)]
+#[derive(Clone, Copy)]
 pub enum Claimed {
     States(Claim),
     Nothing,
@@ -109,7 +111,7 @@ fn read_claim(first: &[u8], limit: usize) -> Claimed
 }
 
 // What the headers of both old images state, UPDATE's first, if both are taken and UPDATE's version is greater.
-#[derive(Drop)]
+#[derive(Clone, Copy)]
 pub enum Claims {
     Newer(Claim, Claim),
     No,
@@ -319,7 +321,7 @@ fn has_digest<'a>(
     let digest = end_digest(g, boot, update, swap, image, mark, claim, h);
     let first = old_sector(g, boot, update, swap, image, mark, SectorNumber(0));
     let at = claim.digest + 4;
-    check::same(&digest, &first[at..at + 32])
+    digest[..] == first[at..at + 32]
 }
 
 // Both old images have the digests that their headers state, UPDATE's claim u and BOOT's b. d and e have taken in UPDATE's and BOOT's

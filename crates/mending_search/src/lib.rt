@@ -1,5 +1,7 @@
 // The search for the first mark that fits. The two old headers are the same for all marks behind sector 0, and the hash values of the
 // sectors before the mark are carried from mark to mark.
+#![tactic(auto)]
+
 ghost use Rattle.std.specs.Prelude.{◌≡◌, ◌+◌, ◌*◌, ◌/◌, ◌≤◌};
 ghost use Rattle.numbers.specs.Answer.{refused};
 ghost use Rattle.flash.specs.Sizes.{firmware};
@@ -23,7 +25,7 @@ use mending_images::{Claim, Claims};
 const LEGS: usize = 3;
 
 // The first mark that fits, if any does.
-#[derive(Drop)]
+#[derive(Clone, Copy)]
 pub enum FoundMark {
     First(Mark),
     None,

@@ -1,4 +1,6 @@
 // What the calls of document 01 answer, and for each answer the number and the place of its table "Numbers given back".
+#![tactic(auto)]
+
 ghost use Rattle.std.specs.Prelude.{◌≡◌};
 ghost use Rattle.numbers.specs.GivenBack.{refused_at, refusal_of, header_says, writer_answer, image_says, sealed_says, sealed_writer_answer};
 ghost use Rattle.numbers.specs.GivenBack.{power_up_says, three_numbers, reason_of, reason_refusal, command_number, mend_number, row_number, sheet_says};
@@ -6,7 +8,7 @@ ghost use Rattle.numbers.specs.GivenBack.{power_up_says, three_numbers, reason_o
 // ---- the answers
 
 // What a header is: accepted, or refused, with the place.
-#[derive(Drop)]
+#[derive(Clone, Copy)]
 pub enum HeaderOutcome {
     Accepted,
     TooShort,
@@ -24,7 +26,7 @@ pub enum HeaderOutcome {
 }
 
 // The writer's answer.
-#[derive(Drop)]
+#[derive(Clone, Copy)]
 pub enum WriteOutcome {
     Written,
     // The lent output is shorter than a header.
@@ -34,7 +36,7 @@ pub enum WriteOutcome {
 }
 
 // What a header is by the sealed profile: sealed, or refused.
-#[derive(Drop)]
+#[derive(Clone, Copy)]
 pub enum SealedOutcome {
     Sealed,
     // The reader's refusal.
@@ -45,7 +47,7 @@ pub enum SealedOutcome {
 }
 
 // The sealed writer's answer.
-#[derive(Drop)]
+#[derive(Clone, Copy)]
 pub enum SealedWriteOutcome {
     Written,
     // The lent output is shorter than a header.
@@ -57,7 +59,7 @@ pub enum SealedWriteOutcome {
 }
 
 // What an image is: good, or refused.
-#[derive(Drop)]
+#[derive(Clone, Copy)]
 pub enum ImageOutcome {
     Good,
     // Geometry or length outside the rules.
@@ -68,7 +70,7 @@ pub enum ImageOutcome {
 }
 
 // Why a power-up is refused.
-#[derive(Drop)]
+#[derive(Clone, Copy)]
 pub enum PowerUpRefusal {
     // Geometry or a length outside the rules.
     OutsideRules,
@@ -82,7 +84,7 @@ pub enum PowerUpRefusal {
 }
 
 // Why an update was turned down.
-#[derive(Drop)]
+#[derive(Clone, Copy)]
 pub enum TurnDownReason {
     // None was.
     None,
@@ -91,7 +93,7 @@ pub enum TurnDownReason {
 }
 
 // Why arm or confirm is refused.
-#[derive(Drop)]
+#[derive(Clone, Copy)]
 pub enum CommandRefusal {
     OutsideRules,
     StatusNotAllowed,
@@ -100,7 +102,7 @@ pub enum CommandRefusal {
 }
 
 // Why mending is refused.
-#[derive(Drop)]
+#[derive(Clone, Copy)]
 pub enum MendRefusal {
     OutsideRules,
     StatusNotAllowed,
@@ -109,7 +111,7 @@ pub enum MendRefusal {
 }
 
 // Why a row of erase counts or its total is refused.
-#[derive(Drop)]
+#[derive(Clone, Copy)]
 pub enum RowRefusal {
     // The total is not the row's sum.
     TotalWrong,
@@ -118,7 +120,7 @@ pub enum RowRefusal {
 }
 
 // What a release sheet is: accepted, or refused, with the number of its line, counted from 1.
-#[derive(Drop)]
+#[derive(Clone, Copy)]
 pub enum SheetOutcome {
     Accepted,
     NotUnderstood(usize),
@@ -133,14 +135,14 @@ pub enum SheetOutcome {
 // ---- their numbers
 
 // A number and its place. Both are 0 where nothing is refused.
-#[derive(Drop)]
+#[derive(Clone, Copy)]
 pub struct Refused {
     pub number: u32,
     pub place: usize,
 }
 
 // A power-up's number, and the own number and place of a bad image within it.
-#[derive(Drop)]
+#[derive(Clone, Copy)]
 pub struct RefusedInside {
     pub number: u32,
     pub inner: u32,

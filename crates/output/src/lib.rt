@@ -1,4 +1,6 @@
 // Bytes written into a lent output, one run behind another.
+#![tactic(auto)]
+
 ghost use Rattle.std.specs.Prelude.{◌+◌, ◌≤◌, length};
 ghost use Rattle.output.specs.Puts.{Puts};
 
@@ -7,6 +9,6 @@ pub fn put(out: &mut [u8], at: usize, b: &[u8]) -> usize
     requires { at + length b.now ≤ length out.old }
     ensures { Puts out.old out.new at b.now result }
 {
-    bytes::copy(b, &mut out[at..]);
+    out[at..at + b.len()].copy_from_slice(b);
     at + b.len()
 }

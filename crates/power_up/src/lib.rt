@@ -1,4 +1,6 @@
 // Power-up on three lent buffers: BOOT, UPDATE and SWAP.
+#![tactic(auto)]
+
 ghost use Rattle.std.specs.Prelude.{◌≡◌, ◌≤◌};
 ghost use Rattle.flash.specs.Sizes.{firmware};
 ghost use Rattle.flash.specs.Sectors.{Partition};
@@ -22,7 +24,7 @@ use numbers::{PowerUpRefusal, TurnDownReason};
 use power_up_decision::Plan;
 
 // Document 01's "cut", "run", "run on test" and "run, fallen back", or a refusal.
-#[derive(Drop)]
+#[derive(Clone, Copy)]
 pub enum Outcome {
     Refused(PowerUpRefusal),
     Cut,
@@ -32,7 +34,7 @@ pub enum Outcome {
 }
 
 // The count is that of the operations done.
-#[derive(Drop)]
+#[derive(Clone, Copy)]
 pub struct PowerUpAnswer {
     pub outcome: Outcome,
     pub reason: TurnDownReason,

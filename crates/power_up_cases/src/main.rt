@@ -1,5 +1,7 @@
 // Runs power-up, arm and confirm on real images, three sectors of 256: every budget from 0 to 25 and every pair of them, on an update and on
 // a fallback; document 01's marked cases on real images; and what is turned down or refused.
+#![tactic(auto)]
+
 use digest_sha256::Hasher;
 use exchange_commands::CommandAnswer;
 use header_reader::Header;
@@ -64,7 +66,7 @@ fn partition_of(version: u8, status: u8) -> [u8; PARTITION] {
     header_writer::write_header(&mut partition, header_of(version, [0u8; 32]));
     let digest = digest_image(&partition, &code);
     header_writer::write_header(&mut partition, header_of(version, digest));
-    bytes::copy(&code, &mut partition[256..]);
+    partition[256..256 + code.len()].copy_from_slice(&code);
     partition[767] = status;
     partition
 }

@@ -1,4 +1,6 @@
 // The checks before a power-up's work, and what they decide.
+#![tactic(auto)]
+
 ghost use Rattle.std.specs.Prelude.{◌≡◌};
 ghost use Rattle.flash.specs.Sectors.{Partition};
 ghost use Rattle.flash_flags.specs.SectorFlags.{flags_at};
@@ -14,7 +16,7 @@ use image::ImageVerdict;
 use numbers::{PowerUpRefusal, TurnDownReason};
 
 // What a power-up is to do.
-#[derive(Drop)]
+#[derive(Clone, Copy)]
 pub enum Plan {
     Refuse(PowerUpRefusal),
     Plain,

@@ -1,5 +1,7 @@
 // Reads release sheets. Its first argument names a firmware, the others name sheets. Below a sheet's name stand the values that it states
 // and the headers that are made of them, or the line of its refusal.
+#![tactic(auto)]
+
 ghost use Rattle.io.specs.Counts.{IsPrefixLen};
 
 use libc::STDOUT_FILENO;

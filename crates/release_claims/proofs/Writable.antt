@@ -54,15 +54,15 @@ record Hint (l : List ℕ) : Type 0 where
   none : not (same l no_hint) ≡ false → hint_bytes l ≡ replicate 32 0
 
 hint_of : (l : List ℕ) → is_hint l ≡ true → Hint l
-hint_of l e = record { extent = go-extent (same l no_hint) e; bytes = go-bytes (same l no_hint) e; none = λ n. rw (not-false (same l no_hint) n) }
+hint_of l e = record { extent = go_extent (same l no_hint) e; bytes = go_bytes (same l no_hint) e; none = λ n. rw (not-false (same l no_hint) n) }
   where
-    go-extent : (b : Bool) → b || hex_digits 64 l ≡ true → length (cond b (replicate 32 0) (hex_bytes l)) ≡ 32
-    go-extent true e = refl
-    go-extent false e = bytes_length 32 l (hex_is 64 l e).0
+    go_extent : (b : Bool) → b || hex_digits 64 l ≡ true → length (cond b (replicate 32 0) (hex_bytes l)) ≡ 32
+    go_extent true e = refl
+    go_extent false e = bytes_length 32 l (hex_is 64 l e).0
 
-    go-bytes : (b : Bool) → b || hex_digits 64 l ≡ true → Every (λ x. x < 256) (cond b (replicate 32 0) (hex_bytes l))
-    go-bytes true e = zeros_below 32
-    go-bytes false e = bytes_below 32 l (hex_is 64 l e).0 (hex_is 64 l e).1
+    go_bytes : (b : Bool) → b || hex_digits 64 l ≡ true → Every (λ x. x < 256) (cond b (replicate 32 0) (hex_bytes l))
+    go_bytes true e = zeros_below 32
+    go_bytes false e = bytes_below 32 l (hex_is 64 l e).0 (hex_is 64 l e).1
 
 pub read_is_writable : ReadIsWritable
 read_is_writable text v e =

@@ -1,1 +1,3 @@
 // What holds of the reader of a release sheet: theorems only.
+#![tactic(auto)]
+

@@ -68,40 +68,40 @@ nothing_read s = record { digits = refl; is = refl }
 
 module _ {s : List ℕ} {n i : ℕ} (read : Read s n i) where
   module _ (lt : i < length s) where
-    here-digits : all_digits s ≡ is_digit (get_or s i 0) && all_digits (drop (suc i) s)
+    here_digits : all_digits s ≡ is_digit (get_or s i 0) && all_digits (drop (suc i) s)
     unfolding all_digits
-    here-digits = sym read.digits ∙ rw (drop-cons s i 0 lt)
+    here_digits = sym read.digits ∙ rw (drop-cons s i 0 lt)
 
-    here-number : decimal s ≡ number_from (10 * n + (get_or s i 0 - 48)) (drop (suc i) s)
+    here_number : decimal s ≡ number_from (10 * n + (get_or s i 0 - 48)) (drop (suc i) s)
     unfolding number_from
-    here-number = sym read.is ∙ rw (drop-cons s i 0 lt)
+    here_number = sym read.is ∙ rw (drop-cons s i 0 lt)
 
-    pub one-read : is_digit (get_or s i 0) ≡ true → Read s (10 * n + (get_or s i 0 - 48)) (i + 1)
-    one-read d = record { digits = rw add-one (sym (here-digits ∙ rw d)); is = rw add-one (sym here-number) }
+    pub one_read : is_digit (get_or s i 0) ≡ true → Read s (10 * n + (get_or s i 0 - 48)) (i + 1)
+    one_read d = record { digits = rw add-one (sym (here_digits ∙ rw d)); is = rw add-one (sym here_number) }
 
     pub refuses : (most : ℕ) → is_digit (get_or s i 0) && leb (10 * n + (get_or s i 0 - 48)) most ≡ false → decimal_up_to most s ≡ false
     refuses most e = and_fails (ltb 0 (length s)) (go (is_digit (get_or s i 0)) refl)
       where
         go : (b : Bool) → is_digit (get_or s i 0) ≡ b → all_digits s && leb (decimal s) most ≡ false
-        go false d = rw (here-digits, d)
+        go false d = rw (here_digits, d)
         go true d =
             let f : leb (10 * n + (get_or s i 0 - 48)) most ≡ false = rw d at e in
-            and_fails (all_digits s) (lt-leb (decimal s) most (omega (arith, here-number, leb-false (10 * n + (get_or s i 0 - 48)) most f, from_below (10 * n + (get_or s i 0 - 48)) (drop (suc i) s))))
+            and_fails (all_digits s) (lt-leb (decimal s) most (omega (arith, here_number, leb-false (10 * n + (get_or s i 0 - 48)) most f, from_below (10 * n + (get_or s i 0 - 48)) (drop (suc i) s))))
 
   -- at the end
   module _ (end : length s ≤ i) where
-    end-digits : all_digits s ≡ true
+    end_digits : all_digits s ≡ true
     unfolding all_digits
-    end-digits = sym read.digits ∙ rw (drop_of_length-le s end)
+    end_digits = sym read.digits ∙ rw (drop_of_length-le s end)
 
-    end-number : n ≡ decimal s
+    end_number : n ≡ decimal s
     unfolding number_from
-    end-number = rw (drop_of_length-le s end) at read.is
+    end_number = rw (drop_of_length-le s end) at read.is
 
     pub all_read : (most : ℕ) → 0 < length s → n ≤ most → Decimals most s (record { taken = true; number = n })
     all_read most some le =
-        let w : decimal_up_to most s ≡ true = rw (lt-ltb _ _ some, end-digits, ← end-number, le-leb _ _ le) in
-        record { taken = sym w; number = rw w end-number }
+        let w : decimal_up_to most s ≡ true = rw (lt-ltb _ _ some, end_digits, ← end_number, le-leb _ _ le) in
+        record { taken = sym w; number = rw w end_number }
 
 pub none_read : {most : ℕ} {s : List ℕ} {r : Parsed} → r ≡ record { taken = false; number = 0 } → decimal_up_to most s ≡ false → Decimals most s r
 none_read e f = record { taken = ap (λ (x : Parsed). x.taken) e ∙ sym f; number = rw f (ap (λ (x : Parsed). x.number) e) }

@@ -1,9 +1,11 @@
 // The values of a release sheet as text: decimal numbers, and bytes in hexadecimal digits.
+#![tactic(auto)]
+
 ghost use Rattle.std.specs.Prelude.{◌≡◌, ◌*◌, true, false, length};
 ghost use Rattle.release_digits.specs.Digits.{hex_digit, all_hex, hex_digits, hex_bytes, Decimals, Appends};
 
 // A decimal number, or that a text is none: then the number is 0.
-#[derive(Drop)]
+#[derive(Clone, Copy)]
 pub struct Parsed {
     pub taken: bool,
     pub number: u64,

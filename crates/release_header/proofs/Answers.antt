@@ -67,24 +67,24 @@ module _ (v : Stated) (f out : List ℕ) (room : 256 ≤ length out) (some : len
   first = header_bytes (header_with v f zeros)
 
   module _ {w : Write} (once : w ≡ write_header (header_with v f zeros) out) where
-    bytes-first : w.bytes ≡ first ++ drop 256 out
-    bytes-first = ap (λ (x : Write). x.bytes) (once ∙ writes (header_with v f zeros) out room some)
+    bytes_first : w.bytes ≡ first ++ drop 256 out
+    bytes_first = ap (λ (x : Write). x.bytes) (once ∙ writes (header_with v f zeros) out room some)
 
-    length-first : length w.bytes ≡ length out
-    length-first =
-        ap length bytes-first ∙ omega (arith, length-append first (drop 256 out), length_made v f zeros refl s64 h32, length-drop 256 out)
+    length_first : length w.bytes ≡ length out
+    length_first =
+        ap length bytes_first ∙ omega (arith, length-append first (drop 256 out), length_made v f zeros refl s64 h32, length-drop 256 out)
 
-    pub digest-made : {d : List ℕ} → d ≡ sha256 (take digest_tag w.bytes ++ f) → d ≡ digest_for v f
+    pub digest_made : {d : List ℕ} → d ≡ sha256 (take digest_tag w.bytes ++ f) → d ≡ digest_for v f
     unfolding digest_for
-    digest-made e =
-        e ∙ ap (λ (l : List ℕ). sha256 (take digest_tag l ++ f)) bytes-first
+    digest_made e =
+        e ∙ ap (λ (l : List ℕ). sha256 (take digest_tag l ++ f)) bytes_first
         ∙ ap sha256 (sym (covers v f zeros refl s64 h32 (drop 256 out) f (take-length f)))
 
     -- the second writing covers the first
     pub twice : {d : List ℕ} {u : Write} → d ≡ sha256 (take digest_tag w.bytes ++ f) → u ≡ write_header (header_with v f d) w.bytes
         → u ≡ write_header (header_for v f) out
     twice {d} e is =
-        is ∙ writes (header_with v f d) w.bytes (omega (arith, length-first)) some
+        is ∙ writes (header_with v f d) w.bytes (omega (arith, length_first)) some
         ∙ ap (λ (l : List ℕ). write (gives tt) (header_bytes (header_with v f d) ++ l))
-        (ap (drop 256) bytes-first ∙ drop_at first (drop 256 out) 256 (length_made v f zeros refl s64 h32))
-        ∙ sym (writes (header_with v f d) out room some) ∙ ap (λ (x : List ℕ). write_header (header_with v f x) out) (digest-made e)
+        (ap (drop 256) bytes_first ∙ drop_at first (drop 256 out) 256 (length_made v f zeros refl s64 h32))
+        ∙ sym (writes (header_with v f d) out room some) ∙ ap (λ (x : List ℕ). write_header (header_with v f x) out) (digest_made e)

@@ -1,5 +1,7 @@
 // Makes the header of a firmware: the size is the firmware's, the digest covers the header before its tag and the firmware, and the other
 // values are stated by the caller.
+#![tactic(auto)]
+
 ghost use Rattle.std.specs.Prelude.{◌≡◌, ◌^◌, ◌<◌, length};
 ghost use Rattle.numbers.specs.GivenBack.{writer_answer};
 ghost use Rattle.header_writer.specs.Writing.{write};

@@ -60,9 +60,9 @@ module _ (l : List ℕ) where
     is : index_of 32 l ≡ s
     is = let e : s ≡ 0 + index_of 32 l = searched l 0 32 found in omega arith
 
-    pub no-space : s ≡ length l → LineRead l NotUnderstood
+    pub no_space : s ≡ length l → LineRead l NotUnderstood
     unfolding line_of
-    no-space e = record { says = λ n. sym (simp (not_passed l some other, is, eq-eqb s (length l) e)); within = tt }
+    no_space e = record { says = λ n. sym (simp (not_passed l some other, is, eq-eqb s (length l) e)); within = tt }
 
     module _ (not : s ≡ length l → ⊥) {row : ℕ} (rowIs : row ≡ row_named names (take s l)) where
       pub no_name : row ≡ 5 → LineRead l UnknownName
@@ -81,9 +81,9 @@ module _ (l : List ℕ) where
               within = tt;
             }
 
-        pub a-value : good ≡ true → s ≤ length l → LineRead l (Value row (s + 1))
+        pub a_value : good ≡ true → s ≤ length l → LineRead l (Value row (s + 1))
         unfolding line_of
-        a-value e le =
+        a_value e le =
             record {
               says = λ n. sym (simp (not_passed l some other, is, ne_eqb s (length l) not, ← rowIs, ne_eqb row 5 known, ← tested, e));
               within = (omega (arith, row_bound names (take s l)), omega arith, omega arith);

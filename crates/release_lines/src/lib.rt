@@ -1,4 +1,6 @@
 // One line of a release sheet: a name and its value.
+#![tactic(auto)]
+
 ghost use Rattle.std.specs.Prelude.{◌≡◌};
 ghost use Rattle.release_lines.specs.Lines.{names, row_named, is_hint, well_formed, LineRead};
 
@@ -13,7 +15,7 @@ pub const LARGEST_TIMESTAMP: u64 = 18446744073709551615;
 pub const LARGEST_AUTH_TYPE: u64 = 65535;
 
 // What a line says.
-#[derive(Drop)]
+#[derive(Clone, Copy)]
 pub enum Line {
     // An empty line or a comment.
     Passed,
@@ -28,19 +30,19 @@ pub enum Line {
 fn row_of(name: &[u8]) -> usize
     ensures { result ≡ row_named names name.now }
 {
-    if check::same(name, b"version") {
+    if name == b"version" {
         return 0;
     }
-    if check::same(name, b"timestamp") {
+    if name == b"timestamp" {
         return 1;
     }
-    if check::same(name, b"signature") {
+    if name == b"signature" {
         return 2;
     }
-    if check::same(name, b"auth") {
+    if name == b"auth" {
         return 3;
     }
-    if check::same(name, b"hint") {
+    if name == b"hint" {
         return 4;
     }
     ROWS
@@ -50,7 +52,7 @@ fn row_of(name: &[u8]) -> usize
 fn is_hint(s: &[u8]) -> bool
     ensures { result ≡ is_hint s.now }
 {
-    if check::same(s, b"no") {
+    if s == b"no" {
         return true;
     }
     release_digits::is_hex(s, 64)

@@ -21,15 +21,15 @@ module _ (P : Seen → List (List ℕ) → Type 0)
     -- one line
     one : (s u : Seen) (n : ℕ) (l : List ℕ) (ls : List (List ℕ)) (Q : Type 0) → ((t : Seen) → judge t (suc n) ls ≡ gives u → P t ls → Q)
         → then (then (line_of n l) (λ e. put s n e)) (λ t. judge t (suc n) ls) ≡ gives u → P s (l ∷ ls) → Q
-    one s u n l ls Q rest is p = by-line (line_of n l) refl is
+    one s u n l ls Q rest is p = by_line (line_of n l) refl is
       where
-        by-put : (e : Entry) → line_of n l ≡ gives e → (b : Answer Seen) → put s n e ≡ b → then b (λ t. judge t (suc n) ls) ≡ gives u → Q
-        by-put e x (gives t) y z = rest t z (step s t n e l ls x y p)
-        by-put e x (refused m q) y z = not_given z
+        by_put : (e : Entry) → line_of n l ≡ gives e → (b : Answer Seen) → put s n e ≡ b → then b (λ t. judge t (suc n) ls) ≡ gives u → Q
+        by_put e x (gives t) y z = rest t z (step s t n e l ls x y p)
+        by_put e x (refused m q) y z = not_given z
 
-        by-line : (a : Answer Entry) → line_of n l ≡ a → then (then a (λ e. put s n e)) (λ t. judge t (suc n) ls) ≡ gives u → Q
-        by-line (gives e) x z = by-put e x (put s n e) refl z
-        by-line (refused m q) x z = not_given z
+        by_line : (a : Answer Entry) → line_of n l ≡ a → then (then a (λ e. put s n e)) (λ t. judge t (suc n) ls) ≡ gives u → Q
+        by_line (gives e) x z = by_put e x (put s n e) refl z
+        by_line (refused m q) x z = not_given z
 
     pub along : (ls : List (List ℕ)) (s u : Seen) (n : ℕ) → judge s n ls ≡ gives u → P s ls → P u [] × (5 ≤ missing_row u)
     unfolding judge

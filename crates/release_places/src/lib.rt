@@ -1,4 +1,6 @@
 // Where the values of a release sheet stand.
+#![tactic(auto)]
+
 ghost use Rattle.std.specs.Prelude.{◌≡◌, replicate};
 ghost use Rattle.release_places.specs.Judging.{Finds};
 
@@ -6,7 +8,7 @@ use numbers::SheetOutcome;
 use release_lines::{Line, ROWS};
 
 // The place of each row's value, 0 where none was seen, and the outcome. The places of a refusal are blank: all 0.
-#[derive(Drop)]
+#[derive(Clone, Copy)]
 pub struct Places {
     pub outcome: SheetOutcome,
     pub places: [usize; ROWS],

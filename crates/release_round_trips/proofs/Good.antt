@@ -14,7 +14,7 @@ use Rattle.flash.specs.Sizes.{geometry, firmware, within_limits, geometry_of}
 use Rattle.flash.specs.Buffers.{partition_of}
 use Rattle.flash.specs.Sectors.{firmware_of}
 use Rattle.flash.proofs.Taken.{which_are_taken, tested}
-use Rattle.flash.proofs.Answers.{partition-equal}
+use Rattle.flash.proofs.Answers.{partition_equal}
 use Rattle.header_reader.specs.declared.Header.{Header}
 use Rattle.header_reader.specs.Reading.{tag_places}
 use Rattle.header_reader.proofs.Answers.{by_places}
@@ -22,7 +22,7 @@ use Rattle.header_writer.specs.Writing.{Write, header_bytes, write_header}
 use Rattle.header_round_trips.specs.RoundTrips.{Holdable, carried_hint, carried, RoundTrip}
 use Rattle.header_round_trips.proofs.Back.{written, write_then_read, header_length, places_read}
 use Rattle.image.specs.Check.{values_in, covered, image_in, check_image}
-use Rattle.image.proofs.Ordered.{digest-same}
+use Rattle.image.proofs.Ordered.{digest_same}
 use Rattle.numbers.proofs.Refusals.{given_same}
 use Rattle.release_values.specs.declared.Stated.{Stated}
 use Rattle.release_header.specs.Making.{header_with, digest_for, header_for, make_header}
@@ -105,7 +105,7 @@ module _ (v : Stated) (f out : List ℕ) (g : Makable v f out) where
       let found : tag_places b ≡ gives l = ap tag_places first ∙ places_read (header_for v f) holdable (f ++ rest) in
       let is : values_in b l ≡ header_for v f = given_same (sym (by_places b found) ∙ trip.alone (f ++ rest)) in
       let size : (values_in b l).size ≡ length f = ap (λ (x : Header). x.size) is in
-      digest-same b l found (omega (arith, size, length-append h (f ++ rest), length-append f rest, length_h))
+      digest_same b l found (omega (arith, size, length-append h (f ++ rest), length-append f rest, length_h))
       (ap₂ (λ (x : List ℕ) (n : ℕ). sha256 (covered x 28 n)) first size ∙ covered_made rest ∙ sym (ap (λ (x : Header). x.digest) is))
       ∙ ap gives is
 
@@ -124,7 +124,7 @@ module _ (v : Stated) (f out : List ℕ) (g : Makable v f out) where
   unfolding check_image firmware
   partition n s l p =
       let taken = sym ((which_are_taken n s).taken.1 p.rules) in
-      let fits : partition_of n s l ≡ gives (geometry n s) = sym (partition-equal n s l (geometry n s) taken p.whole) in
+      let fits : partition_of n s l ≡ gives (geometry n s) = sym (partition_equal n s l (geometry n s) taken p.whole) in
       let room : 256 + length f ≤ (n - 1) * s = omega (arith, p.holds, g.some) in
       ap (λ (a : Answer Geometry). then a (λ x. image_in (firmware_of x l))) fits
       ∙ ap (λ (x : List ℕ). image_in (take ((n - 1) * s) x)) p.begins

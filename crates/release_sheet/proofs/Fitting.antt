@@ -97,7 +97,7 @@ places_fit text places is within =
     record {
       seen = seen;
       within = within;
-      tested = λ row lt. rw (value-is row lt) at (g.fits row lt);
+      tested = λ row lt. rw (value_is row lt) at (g.fits row lt);
     }
   where
     g : Given (values_at text places)
@@ -109,8 +109,8 @@ places_fit text places is within =
     seen : (row : ℕ) → row < 5 → get_or places row 0 ≡ 0 → ⊥
     seen row lt e = let h = rw e at (there row lt) in let z : ◌≡◌ {A = ℕ} 0 1 = cc in omega arith
 
-    value-is : (row : ℕ) → row < 5 → value_in (values_at text places) row ≡ rest_of_line text (get_or places row 0)
-    value-is row lt =
+    value_is : (row : ℕ) → row < 5 → value_in (values_at text places) row ≡ rest_of_line text (get_or places row 0)
+    value_is row lt =
         let h = rw (ne_eqb (get_or places row 0) 0 (seen row lt)) at (there row lt) in
         cc
 

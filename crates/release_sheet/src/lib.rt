@@ -1,4 +1,6 @@
 // The reader of a release sheet: a text that states the values of a header that the firmware does not give.
+#![tactic(auto)]
+
 ghost use Rattle.std.specs.Prelude.{◌≡◌, ◌≤◌, true, not, length};
 ghost use Rattle.release_digits.specs.Digits.{decimal, decimal_up_to, hex_digits, hex_bytes};
 ghost use Rattle.header_tags.specs.Bytes.{same};
@@ -11,7 +13,7 @@ use release_lines::{LARGEST_AUTH_TYPE, LARGEST_TIMESTAMP, LARGEST_VERSION, ROWS}
 use release_values::Stated;
 
 // The reader's answer. The values of a refusal are blank.
-#[derive(Drop)]
+#[derive(Clone, Copy)]
 pub struct SheetAnswer {
     pub outcome: SheetOutcome,
     pub stated: Stated,
@@ -44,7 +46,7 @@ fn has_hint(text: &[u8], at: usize) -> bool
     ensures { result ≡ not (same (rest_of_line text.now at) no_hint) }
 {
     let end = bytes::scan::find(text, at, text.len(), 10);
-    !check::same(&text[at..end], b"no")
+    text[at..end] != b"no"[..]
 }
 
 // The bytes of a hint at a place.

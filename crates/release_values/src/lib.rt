@@ -1,10 +1,12 @@
 // What a release sheet states of a firmware.
+#![tactic(auto)]
+
 ghost use Rattle.std.specs.Prelude.{◌≡◌};
 ghost use Rattle.release_values.specs.Stated.{blank};
 
 // The values that a person states. The size and the digest are not among them: the size is the firmware's, and the digest is made of the
 // header and the firmware.
-#[derive(Drop)]
+#[derive(Clone, Copy)]
 pub struct Stated {
     pub version: u32,
     // Unix seconds.

@@ -1,4 +1,6 @@
 // Reads the headers that stand one behind another in standard input, 256 bytes each, by the sealed profile. Prints a line for each.
+#![tactic(auto)]
+
 use libc::{STDIN_FILENO, STDOUT_FILENO};
 
 // As many as are read at most.

@@ -71,11 +71,11 @@ module _ (n b : List ℕ) (x : Refused) where
 
   pub sealed_laid : (s : List ℕ) (r : SealedAnswer) → sealed_read (sealed_says r.outcome) r.header ≡ told (read_sealed s)
       → x ≡ refusal_of (sealed_says r.outcome) → given x r.header n b ≡ read_sealed_answer s n b
-  sealed_laid s r e ex = rw (ex, ap (λ (t : SealedRead). t.answer) e, ap (λ (t : SealedRead). t.values) e) (laid-told (read_sealed s))
+  sealed_laid s r e ex = rw (ex, ap (λ (t : SealedRead). t.answer) e, ap (λ (t : SealedRead). t.values) e) (laid_told (read_sealed s))
     where
-      laid-told : (a : Answer Header) → given (refusal_of (told a).answer) (told a).values n b ≡ laid_out a n b
-      laid-told (gives v) = refl
-      laid-told (refused m p) = refl
+      laid_told : (a : Answer Header) → given (refusal_of (told a).answer) (told a).values n b ≡ laid_out a n b
+      laid_told (gives v) = refl
+      laid_told (refused m p) = refl
 
   -- a good image, by its verdict, with its header as read
   pub good_laid : (l : List ℕ) (r : ImageVerdict) → Judges (image_in l) r → (h : HeaderAnswer) {z : Release} → r ≡ Good z → Reads l h

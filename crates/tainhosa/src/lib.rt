@@ -1,5 +1,7 @@
 // The C interface of the library. A C caller passes a slice as a pointer and a length. Every answer is 0 or a refusal's number;
 // a buffer of another length than documented is refusal 1, and nothing changes.
+#![tactic(auto)]
+
 ghost use Rattle.std.specs.Prelude.{◌≡◌};
 ghost use Rattle.flash.specs.Buffers.{lent};
 ghost use Rattle.tainhosa.specs.Digest.{after_digest, sha256_answer};

@@ -36,33 +36,33 @@ module _ (check : Check) (y : Flash) where
       }
 
   module _ (g' : Geometry) (o : Outcome) (I : Idles g' o) where
-    idle-untorn : (budget : ℕ) → left check y (untorn g' budget) ≡ left_untorn g' budget (idle o y)
+    idle_untorn : (budget : ℕ) → left check y (untorn g' budget) ≡ left_untorn g' budget (idle o y)
     unfolding left
-    idle-untorn budget = ap (left_untorn g' budget) (I.up budget)
+    idle_untorn budget = ap (left_untorn g' budget) (I.up budget)
 
-    idle-lost : (budget k : ℕ) (t : Torn) → left check y (lost g' budget k t) ≡ left_lost k y
+    idle_lost : (budget k : ℕ) (t : Torn) → left check y (lost g' budget k t) ≡ left_lost k y
     unfolding left
-    idle-lost budget k t = ap₂ (λ (n : Next) (a : PowerUp). left_lost k (tear_next g' t n a.flash)) (I.next k) (I.up k)
+    idle_lost budget k t = ap₂ (λ (n : Next) (a : PowerUp). left_lost k (tear_next g' t n a.flash)) (I.next k) (I.up k)
 
-    none-lost : (budget k : ℕ) → k ≤ (power_up check g' y budget).count → k ≡ 0
-    none-lost budget k h = let z : k ≤ 0 = subst (λ (a : PowerUp). k ≤ a.count) (I.up budget) h in omega arith
+    none_lost : (budget k : ℕ) → k ≤ (power_up check g' y budget).count → k ≡ 0
+    none_lost budget k h = let z : k ≤ 0 = subst (λ (a : PowerUp). k ≤ a.count) (I.up budget) h in omega arith
 
   module _ (g : Geometry) (fit : fits g y ≡ true) (d : decide check g y ≡ plain) (b : Good (check g y.boot)) where
     -- a geometry that fits is the right one
-    fits-right : (g' : Geometry) → fits g' y ≡ true → Idles g' runs
-    fits-right g' e = subst (λ (q : Geometry). Idles q runs) (sym (same_geometry g g' y (shaped_of g y fit) (shaped_of g' y e))) (at_plain g d b)
+    fits_right : (g' : Geometry) → fits g' y ≡ true → Idles g' runs
+    fits_right g' e = subst (λ (q : Geometry). Idles q runs) (sym (same_geometry g g' y (shaped_of g y fit) (shaped_of g' y e))) (at_plain g d b)
 
     pub rests : (e : Event) → EndsAsAllowed check g y e → DoesNothing y (left check y e)
     rests (untorn g' budget) h = by (fits g' y) refl
       where
         by : (w : Bool) → fits g' y ≡ w → DoesNothing y (left check y (untorn g' budget))
-        by false e = rw (idle-untorn g' (refusal (numbered 1 0)) (outside g' e) budget) (record { same = refl; none = refl; answers = (refl, inl (e, refl)) })
-        by true e = rw (idle-untorn g' runs (fits-right g' e) budget) (record { same = refl; none = refl; answers = (refl, inr (e, refl)) })
+        by false e = rw (idle_untorn g' (refusal (numbered 1 0)) (outside g' e) budget) (record { same = refl; none = refl; answers = (refl, inl (e, refl)) })
+        by true e = rw (idle_untorn g' runs (fits_right g' e) budget) (record { same = refl; none = refl; answers = (refl, inr (e, refl)) })
     rests (lost g' budget k t) h = by (fits g' y) refl
       where
         by : (w : Bool) → fits g' y ≡ w → DoesNothing y (left check y (lost g' budget k t))
         by false e =
-            rw (idle-lost g' (refusal (numbered 1 0)) (outside g' e) budget k t)
-            (record { same = refl; none = none-lost g' (refusal (numbered 1 0)) (outside g' e) budget k h.0; answers = tt })
+            rw (idle_lost g' (refusal (numbered 1 0)) (outside g' e) budget k t)
+            (record { same = refl; none = none_lost g' (refusal (numbered 1 0)) (outside g' e) budget k h.0; answers = tt })
         by true e =
-            rw (idle-lost g' runs (fits-right g' e) budget k t) (record { same = refl; none = none-lost g' runs (fits-right g' e) budget k h.0; answers = tt })
+            rw (idle_lost g' runs (fits_right g' e) budget k t) (record { same = refl; none = none_lost g' runs (fits_right g' e) budget k h.0; answers = tt })

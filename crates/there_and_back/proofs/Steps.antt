@@ -86,17 +86,17 @@ module _ (check : Check) (g : Geometry) (f : Flash) (R : ReadsFirmware check g) 
   }
 
   module _ (y : Flash) (fit : fits g y ≡ true) (B : GivenBack g f y) where
-    boot-checks : check g y.boot ≡ check g f.boot
-    boot-checks = check_same check g R y.boot f.boot (shaped_of g y fit).boot (shaped check g f R s).boot (λ i hi. (B.sectors i (omega arith)).boot)
+    boot_checks_lem : check g y.boot ≡ check g f.boot
+    boot_checks_lem = check_same check g R y.boot f.boot (shaped_of g y fit).boot (shaped check g f R s).boot (λ i hi. (B.sectors i (omega arith)).boot)
 
-    update-checks : check g y.update ≡ check g f.update
-    update-checks = check_same check g R y.update f.update (shaped_of g y fit).update (shaped check g f R s).update (λ i hi. (B.sectors i (omega arith)).update)
+    update_checks_lem : check g y.update ≡ check g f.update
+    update_checks_lem = check_same check g R y.update f.update (shaped_of g y fit).update (shaped check g f R s).update (λ i hi. (B.sectors i (omega arith)).update)
 
     resting : AtRest check g f y
     resting = record {
       given_back = B;
-      boot_checks = boot-checks;
-      update_checks = update-checks;
+      boot_checks = boot_checks_lem;
+      update_checks = update_checks_lem;
       is_plain = decide_by_reads check g y Success UpdateNew All0 fit B.boot_status B.update_status B.flags;
     }
 
@@ -139,7 +139,7 @@ module _ (check : Check) (g : Geometry) (f : Flash) (R : ReadsFirmware check g) 
     each = record {
       of_update = λ m. absurd (m k);
       to_halfway = λ m _. absurd (m k);
-      no_way_back = λ _. still-updated (finished? fallback g after);
+      no_way_back = λ _. still_updated (finished? fallback g after);
       of_fallback = λ _ _. S.each.0;
       of_rest = λ _ m. absurd (n m);
       finishes = finishes_fallback check g (sides_changed f) y a R o k n e;
@@ -152,14 +152,14 @@ module _ (check : Check) (g : Geometry) (f : Flash) (R : ReadsFirmware check g) 
       S : Safe check (left check) fallback g (sides_changed f) y a (e ∷ [])
       S = demand_3_ongoing check fallback g (sides_changed f) y a R o (e ∷ []) ((n, h), tt)
 
-      still-updated : Dec (Finished fallback g after) → Finished update g after
-      still-updated (yes l) = (S.at_finish l).update_status
-      still-updated (no l) =
+      still_updated : Dec (Finished fallback g after) → Finished update g after
+      still_updated (yes l) = (S.at_finish l).update_status
+      still_updated (no l) =
           let o = (S.ongoing l).2 in o.read_update ∙ ap gives (still_new (firmware g) (S.ongoing l).0 o.boot o.update o.statuses)
 
       by : Dec (Finished fallback g after) → OnTheWay check g f after
       by (yes l) = at_rest_lem after S.fit (given_back_lem after (S.at_finish l))
-      by (no l) = in_fallback (still-updated (no l)) l (S.ongoing l).0 (S.ongoing l).2
+      by (no l) = in_fallback (still_updated (no l)) l (S.ongoing l).0 (S.ongoing l).2
 
   step_rest : (y : Flash) (e : Event) → Finished update g y → Finished fallback g y → AtRest check g f y → EndsAsAllowed check g y e → Stepped y e
   step_rest y e k l A h =

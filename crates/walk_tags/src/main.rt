@@ -1,5 +1,7 @@
 // Walks over the headers at the start of the files that its arguments name. Below a file's name stands a line for each call of the
 // walker, up to the end or a refusal, and a line for one call more, which repeats it.
+#![tactic(auto)]
+
 use header_tags::Tag;
 use libc::STDOUT_FILENO;
 

@@ -135,8 +135,8 @@ module _ {M : Type 1} {𝓤 : Ura M} (𝓛 : Logic 𝓤) (at_mem : Memory → SP
     abbrev to-new : New.Ghost
     to-new = (((κ, tt), (q, tt), tt, (s, tt), (v ∷ [], tt)), tt)
 
-    goes-new : ent 𝓤 Entry (sep 𝓤 (New.pre to-new) (sem 𝓛 Own))
-    goes-new =
+    goes_new : ent 𝓤 Entry (sep 𝓤 (New.pre to-new) (sem 𝓛 Own))
+    goes_new =
         qed 𝓛 (Token ∷ ‵ (owns (ShrSlice (named 0) κ u8 ∷ usize ∷ []) (s, (n, tt)) (v ∷ [], (vint w64 n ∷ [], tt))) ∷ []) ∵
         move ! (1 ∷ []) $ fsplit ! $ move ! (1 ∷ []) $ drop ! $ use1 𝓛 (‵ Own ⊛ ‵ Own) ((shr_slice_copy 𝓛 (named 0) κ u8).twice s (v ∷ [])) $ split ! $
         nothing ! $ move ! (1 ∷ 0 ∷ []) $ fjoin ! $ nothing ! $ move ! (3 ∷ 1 ∷ []) $ join ! $ join ! $ frame ! $ done !
@@ -154,21 +154,21 @@ module _ {M : Type 1} {𝓤 : Ura M} (𝓛 : Logic 𝓤) (at_mem : Memory → SP
       abbrev to-next : ℕ × GName → Next.Ghost
       to-next x = (((x.0 ∷ κ, (κ, tt)), (PosShare.right q, (PosShare.left q, tt)), (meet_⊑_right (x.0 ∷ []) κ, tt), lent x, (vptr l 0 ∷ [], tt)), tt)
 
-      goes-next : (x : ℕ × GName) → ent 𝓤 (on_entry 𝓛 next.signature (to-next x).0.0 (to-next x).0.1 (lent x) (vptr l 0 ∷ [], tt)) (Next.pre (to-next x))
-      goes-next x = qed 𝓛 (raw (on_entry 𝓛 next.signature (to-next x).0.0 (to-next x).0.1 (lent x) (vptr l 0 ∷ [], tt)) ∷ []) ∵ frame ! $ done !
+      goes_next : (x : ℕ × GName) → ent 𝓤 (on_entry 𝓛 next.signature (to-next x).0.0 (to-next x).0.1 (lent x) (vptr l 0 ∷ [], tt)) (Next.pre (to-next x))
+      goes_next x = qed 𝓛 (raw (on_entry 𝓛 next.signature (to-next x).0.0 (to-next x).0.1 (lent x) (vptr l 0 ∷ [], tt)) ∷ []) ∵ frame ! $ done !
 
       abbrev kept : ℕ × GName → Item 𝓤
       kept x = Kept 𝓛 B refl (T'.mir erased) refl κ q l x.0 x.1
 
       -- the walker comes back as `next` leaves it
-      calls-next : {K : Type 0} → K → {C : Calls 𝓤 H} {Λ : Loops 𝓤 H} {E : Env 𝓤 H} {p : Post 𝓤 H} {Γ : List (Item 𝓤)} {xs : List Operand} {d : Place} {after : Piece}
+      calls_next : {K : Type 0} → K → {C : Calls 𝓤 H} {Λ : Loops 𝓤 H} {E : Env 𝓤 H} {p : Post 𝓤 H} {Γ : List (Item 𝓤)} {xs : List Operand} {d : Place} {after : Piece}
           → FmC 𝓤 H 𝓛.laws C → Triple 𝓤 (C #next) Next → (u : Val) → ((x : ℕ × GName) → Opds K 𝓛 (raw (Next.pre (to-next x)) ∷ kept x ∷ Γ) E xs (vptr l 0 ∷ []))
           → ((u' : Val) (t : Tag) (w : Val) → item_of t ≡ walker_answer r → Is S.the_row t (u' ∷ [])
           → Seq K 𝓛 (‵ ((S.the_row).own_val t (u' ∷ [])) ∷ ‵ (fat full_share (T'.mir erased) l 0 w) ∷ ‵ (B.own (walker_after r) (w ∷ [])) ∷ Token ∷ Γ) (lands C Λ E d u' after p))
           → Seq K 𝓛 (‵ (fat full_share (T'.mir erased) l 0 u) ∷ ‵ (B.own r (u ∷ [])) ∷ Token ∷ Γ) (runs C Λ E (seq (call #next xs d) after) p)
-      calls-next k fm known u os then =
+      calls_next k fm known u os then =
           use3 𝓛 (later (some (Lent 𝓛 B refl (T'.mir erased) refl κ q l r))) (lends 𝓛 B refl (T'.mir erased) refl κ q l r u) $ await k tt $ pick k (λ x. split k $
-          use1 𝓛 (raw (Next.pre (to-next x))) (goes-next x) $
+          use1 𝓛 (raw (Next.pre (to-next x))) (goes_next x) $
           calls_at k fm Next known (to-next x) (os x) (λ u'.
           returned k tt next.ended (next.clauses 𝓛 at_mem run) (to-next x) u' (λ t ws. (item_of t ≡ walker_answer r) × (ws.0 ≡ walker_after r)) (λ t ws. id⊢ 𝓤 _) (λ t ws e is.
           -- [the tag; the tokens; what is said of the last walker; what is kept; …]
@@ -222,7 +222,7 @@ module _ {M : Type 1} {𝓤 : Ura M} (𝓛 : Logic 𝓤) (at_mem : Memory → SP
             pick ! (λ z. learn ! (λ f. split ! $ move ! (1 ∷ []) $ split ! $ move ! (2 ∷ 0 ∷ 1 ∷ []) $
             -- [_3; the walker; the token; what s owns; _9; …; _8; …; _7; …; _6; …; _5; …; _4; …]
             assigns ! (addr ! (from ! (stop !))) (from ! (stop !)) (init ! 6 refl (tt, tt)) $
-            calls-next l₃ (after_calls z.0 (start_of s)) ! fm known_next z.1 (λ x. and_then ! (load ! (from ! (stop !)) (look ! 5 refl)) (no_more !)) (λ u g w e is.
+            calls_next l₃ (after_calls z.0 (start_of s)) ! fm known_next z.1 (λ x. and_then ! (load ! (from ! (stop !)) (look ! 5 refl)) (no_more !)) (λ u g w e is.
             land ! (from ! (stop !)) (init ! 9 refl ((EL.lawful S.the_type S'.the_laws 𝓛 tt).typed g _ is).0) $ drop ! $
             assigns_last ! (bin ! (load ! (from ! (stop !)) (look ! 14 refl)) (lit ! tt) (omega arith)) (from ! (stop !)) (store ! 14 refl (tt, record { fits = omega arith })) $
             rewrite ! 14 (λ (j : ℕ). ‵ (fat full_share (τ 4) l₄ 0 (vint w64 j))) (omega arith) refl $
@@ -235,7 +235,7 @@ module _ {M : Type 1} {𝓤 : Ura M} (𝓛 : Logic 𝓤) (at_mem : Memory → SP
             leaves_loop ! (load ! (from ! (stop !)) (look ! 8 refl)) $ exec ! C Λ En rest (at_ret En (Nth.post y)) $
             pick ! (λ z. learn ! (λ f. split ! $ move ! (1 ∷ []) $ split ! $ move ! (2 ∷ 0 ∷ 1 ∷ []) $
             assigns ! (addr ! (from ! (stop !))) (from ! (stop !)) (init ! 4 refl (tt, tt)) $
-            calls-next l₃ (after_calls z.0 (start_of s)) ! fm known_next z.1 (λ x. and_then ! (load ! (from ! (stop !)) (look ! 3 refl)) (no_more !)) (λ u g w e is.
+            calls_next l₃ (after_calls z.0 (start_of s)) ! fm known_next z.1 (λ x. and_then ! (load ! (from ! (stop !)) (look ! 3 refl)) (no_more !)) (λ u g w e is.
             -- [the tag; _3; the walker; the token; what s owns; _9; …; _8; …; _7; …; _6; …; _5; …; _4; …; …; _2; …; _1; …; room for _0; …]
             land ! (from ! (stop !)) (init ! 22 refl ((EL.lawful S.the_type S'.the_laws 𝓛 tt).typed g _ is).0) $
             returns ! (look ! 22 refl) $ forget ! 1 refl $ forget ! 5 refl $ forget ! 11 refl $ forget ! 15 refl $ forget ! 22 refl $
@@ -251,7 +251,7 @@ module _ {M : Type 1} {𝓤 : Ura M} (𝓛 : Logic 𝓤) (at_mem : Memory → SP
           qed 𝓛 (raw Entry ∷ []) ∵ enter ! C Λ code.function (v ∷ vint w64 n ∷ []) _ $
           alloc1 ! (λ l₀. alloc1 ! (λ l₁. alloc1 ! (λ l₂. alloc1 ! (λ l₃. alloc1 ! (λ l₄. alloc1 ! (λ l₅. alloc1 ! (λ l₆. alloc1 ! (λ l₇. alloc1 ! (λ l₈. alloc1 ! (λ l₉. alloc0 ! $ params1 ! $
           pass1 ! (init ! 16 refl ((shr_slice_Lawful 𝓛 (named 0) κ u8).typed s (v ∷ []) p).0) $ pass1 ! (init ! 14 refl (tt, record { fits = fits })) $ pass0 ! $
-          move ! (20 ∷ []) $ use1 𝓛 (raw (New.pre to-new) ⊛ ‵ Own) goes-new $ split ! $
+          move ! (20 ∷ []) $ use1 𝓛 (raw (New.pre to-new) ⊛ ‵ Own) goes_new $ split ! $
           calls_at ! fm New known-new to-new (and_then ! (load ! (from ! (stop !)) (look ! 18 refl)) (no_more !)) (λ u.
           returned ! tt new.ended (new.clauses 𝓛 at_mem run) to-new u (λ r _. r ≡ start_of s) (λ r ws. id⊢ 𝓤 _) (λ r ws e is. move ! (2 ∷ []) $ drop ! $
           -- [what the struct owns; the token; what s owns; room for _9; …; _8; …; _7; …; _6; …; _5; …; _4; …; _3; …; _2; …; _1; …; room for _0; …]
