@@ -2,7 +2,9 @@
 // copies of the first one with a byte changed.
 #![tactic(auto)]
 
-use libc::STDOUT_FILENO;
+use std::io::Read;
+use std::rt::Runtime;
+use std::{env, fs, io};
 
 const SECTORS: usize = 3;
 
@@ -10,85 +12,90 @@ const SIZE: usize = 256;
 
 const PARTITION: usize = SECTORS * SIZE;
 
-fn print(text: &[u8]) {
-    io::write_all(STDOUT_FILENO, text);
+fn print(rt: &impl Print, text: &str) -> io::Result<()> {
+    rt.print(text)
 }
 
-fn print_number(label: &[u8], n: u64) {
-    print(label);
-    io::print_decimal(STDOUT_FILENO, n);
+fn print_number(rt: &impl Print, label: &str, n: u64) -> io::Result<()> {
+    print!(rt; "{label}{n}")
 }
 
 // The answer of the check of a partition.
-fn print_check(partition: [u8; PARTITION]) {
+fn print_check(rt: &impl Print, partition: [u8; PARTITION]) -> io::Result<()> {
     let answer = image::check_image(SECTORS, SIZE, &partition);
     let outcome = answer.outcome;
     let refused = numbers::of_image(outcome);
     if refused.number == 0 {
-        print_number(b"good, version ", answer.header.version as u64);
+        print_number(rt, "good, version ", answer.header.version as u64)?;
     } else {
-        print_number(b"refused ", refused.number as u64);
-        print_number(b" at ", refused.place as u64);
+        print_number(rt, "refused ", refused.number as u64)?;
+        print_number(rt, " at ", refused.place as u64)?;
     }
-    print(b"\n");
+    print(rt, "\n")
 }
 
 // The partition that begins with a file's bytes.
-fn partition_of(name: &[u8]) -> [u8; PARTITION] {
+fn partition_of(rt: &impl Runtime, name: &str) -> io::Result<[u8; PARTITION]> {
     let mut partition = [0xFFu8; PARTITION];
-    let fd = os::open_read(name);
-    if fd < 0 {
-        os::fail(name);
-        return partition;
+    match fs::open(rt, name) {
+        Ok(file) => {
+            let mut bytes = Vec::new(rt.alloc());
+            file.take(PARTITION as u64).read_to_end(&mut bytes)?;
+            let n = bytes.len().min(PARTITION);
+            partition[..n].copy_from_slice(&bytes[..n]);
+        }
+        Err(e) => eprintln!(rt; "{name}: {e}")?,
     }
-    io::read_full(fd, &mut partition);
-    libc::close(fd);
-    partition
+    Ok(partition)
 }
 
-fn check_argument(i: usize) {
-    let mut name = io::buffer();
-    let n = os::arg(i, &mut name);
-    print(&name[..n]);
-    print(b": ");
-    print_check(partition_of(&name[..n]));
+fn check_argument(rt: &impl Runtime, name: &str) -> io::Result<()> {
+    print(rt, name)?;
+    print(rt, ": ")?;
+    print_check(rt, partition_of(rt, name)?)
 }
 
 // The same partition with the bits of `mask` changed in one byte.
-fn print_damaged(partition: [u8; PARTITION], at: usize, mask: u8) {
+fn print_damaged(
+    rt: &impl Print,
+    partition: [u8; PARTITION],
+    at: usize,
+    mask: u8,
+) -> io::Result<()> {
     if at < PARTITION {
         let mut damaged = partition;
         damaged[at] = damaged[at] ^ mask;
-        print_number(b"byte ", at as u64);
-        print_number(b" changed by ", mask as u64);
-        print(b": ");
-        print_check(damaged);
+        print_number(rt, "byte ", at as u64)?;
+        print_number(rt, " changed by ", mask as u64)?;
+        print(rt, ": ")?;
+        print_check(rt, damaged)?;
     }
+    Ok(())
 }
 
-fn check_damaged(partition: [u8; PARTITION], mask: u8) {
+fn check_damaged(rt: &impl Print, partition: [u8; PARTITION], mask: u8) -> io::Result<()> {
     for at in 0..264 {
-        print_damaged(partition, at, mask);
+        print_damaged(rt, partition, at, mask)?;
     }
-    print_damaged(partition, 300, mask);
-    print_damaged(partition, 511, mask);
-    print_damaged(partition, 512, mask);
-    print_damaged(partition, 767, mask);
+    print_damaged(rt, partition, 300, mask)?;
+    print_damaged(rt, partition, 511, mask)?;
+    print_damaged(rt, partition, 512, mask)?;
+    print_damaged(rt, partition, 767, mask)
 }
 
 // Copies of the first file, damaged in several ways.
-fn check_first() {
-    let mut name = io::buffer();
-    let n = os::arg(1, &mut name);
-    let partition = partition_of(&name[..n]);
-    check_damaged(partition, 1);
-    check_damaged(partition, 128);
-    check_damaged(partition, 255);
+fn check_first(rt: &impl Runtime, name: &str) -> io::Result<()> {
+    let partition = partition_of(rt, name)?;
+    check_damaged(rt, partition, 1)?;
+    check_damaged(rt, partition, 128)?;
+    check_damaged(rt, partition, 255)
 }
 
-fn main() {
-    for i in 1..os::arg_count() {
-        check_argument(i);
+fn main(rt: HostRuntime) -> io::Result<()> {
+    let names: Vec<String> = env::args(&rt)?.skip(1).collect(rt.alloc())?;
+    for name in &names {
+        check_argument(&rt, name)?;
     }
-    check_first();
+    let first = names.first().map_or("", |name| name.as_str());
+    check_first(&rt, first)
 }

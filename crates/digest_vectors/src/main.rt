@@ -4,23 +4,20 @@
 #![tactic(auto)]
 
 use digest_sha256::Hasher;
-use libc::STDOUT_FILENO;
+use std::io;
 
 // The digest and the name, with no line end.
-fn print(digest: [u8; 32], name: &[u8]) {
-    let mut i: usize = 0;
-    while i < 32 {
-        io::print_hex(STDOUT_FILENO, digest[i] as u64, 2);
-        i += 1;
+fn print(rt: &impl Print, digest: [u8; 32], name: &str) -> io::Result<()> {
+    for b in &digest {
+        print!(rt; "{b:02x}")?;
     }
-    io::write_all(STDOUT_FILENO, b"  ");
-    io::write_all(STDOUT_FILENO, name);
+    print!(rt; "  {name}")
 }
 
 // A whole line.
-fn print_line(digest: [u8; 32], name: &[u8]) {
-    print(digest, name);
-    io::write_all(STDOUT_FILENO, b"\n");
+fn print_line(rt: &impl Print, digest: [u8; 32], name: &str) -> io::Result<()> {
+    print(rt, digest, name)?;
+    println!(rt)
 }
 
 // One million a, in a thousand parts of a thousand.
@@ -48,29 +45,31 @@ fn pattern() -> [u8; 200] {
 }
 
 // A line for each length from 0 to 200.
-fn print_patterns(p: [u8; 200]) {
+fn print_patterns(rt: &impl Print, p: [u8; 200]) -> io::Result<()> {
     let mut n: usize = 0;
     while n <= 200 {
-        print(digest_sha256::digest(&p[..n]), b"pattern-");
-        io::print_decimal(STDOUT_FILENO, n as u64);
-        io::write_all(STDOUT_FILENO, b"\n");
+        print(rt, digest_sha256::digest(&p[..n]), "pattern-")?;
+        println!(rt; "{n}")?;
         n += 1;
     }
+    Ok(())
 }
 
-fn main() {
-    print_line(digest_sha256::digest(b""), b"empty");
-    print_line(digest_sha256::digest(b"abc"), b"abc");
+fn main(rt: HostRuntime) -> io::Result<()> {
+    print_line(&rt, digest_sha256::digest(b""), "empty")?;
+    print_line(&rt, digest_sha256::digest(b"abc"), "abc")?;
     print_line(
+        &rt,
         digest_sha256::digest(b"abcdbcdecdefdefgefghfghighijhijkijkljklmklmnlmnomnopnopq"),
-        b"448-bit",
-    );
+        "448-bit",
+    )?;
     print_line(
+        &rt,
         digest_sha256::digest(
             b"abcdefghbcdefghicdefghijdefghijkefghijklfghijklmghijklmnhijklmnoijklmnopjklmnopqklmnopqrlmnopqrsmnopqrstnopqrstu",
         ),
-        b"896-bit",
-    );
-    print_line(million(), b"million-a");
-    print_patterns(pattern());
+        "896-bit",
+    )?;
+    print_line(&rt, million(), "million-a")?;
+    print_patterns(&rt, pattern())
 }

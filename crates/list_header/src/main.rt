@@ -1,12 +1,15 @@
 // Lists the header at the start of standard input.
 #![tactic(auto)]
 
-use libc::{STDIN_FILENO, STDOUT_FILENO};
+use std::io;
+use std::io::Read;
 
-fn main() {
-    let mut header = [0u8; listing::HEADER_LENGTH];
-    let n = io::read_full(STDIN_FILENO, &mut header);
+fn main(rt: HostRuntime) -> io::Result<()> {
+    let mut header = Vec::new(rt.alloc());
+    rt.reader()
+        .take(listing::HEADER_LENGTH as u64)
+        .read_to_end(&mut header)?;
     let mut text = [0u8; listing::TEXT_LENGTH];
-    let k = listing::list(&header[..n], &mut text);
-    io::write_all(STDOUT_FILENO, &text[..k]);
+    let k = listing::list(&header, &mut text);
+    rt.write_all(&text[..k])
 }

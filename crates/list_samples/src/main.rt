@@ -1,32 +1,30 @@
 // Lists the headers at the start of the files that its arguments name, each below the file's name.
 #![tactic(auto)]
 
-use libc::STDOUT_FILENO;
+use std::io::Read;
+use std::rt::Runtime;
+use std::{env, fs, io};
 
-fn list_file(name: &[u8]) {
-    let fd = os::open_read(name);
-    if fd < 0 {
-        os::fail(name);
-        return;
-    }
-    let mut header = [0u8; listing::HEADER_LENGTH];
-    let n = io::read_full(fd, &mut header);
-    libc::close(fd);
+fn list_file<F: Read + Drop>(rt: &(impl Print + Alloc), name: &str, file: F) -> io::Result<()> {
+    let mut header = Vec::new(rt.alloc());
+    file.take(listing::HEADER_LENGTH as u64)
+        .read_to_end(&mut header)?;
     let mut text = [0u8; listing::TEXT_LENGTH];
-    let k = listing::list(&header[..n], &mut text);
-    io::write_all(STDOUT_FILENO, name);
-    io::write_all(STDOUT_FILENO, b"\n");
-    io::write_all(STDOUT_FILENO, &text[..k]);
+    let k = listing::list(&header, &mut text);
+    println!(rt; "{name}")?;
+    rt.write_all(&text[..k])
 }
 
-fn list_argument(i: usize) {
-    let mut name = io::buffer();
-    let n = os::arg(i, &mut name);
-    list_file(&name[..n]);
-}
-
-fn main() {
-    for i in 1..os::arg_count() {
-        list_argument(i);
+fn list_argument(rt: &impl Runtime, name: &str) -> io::Result<()> {
+    match fs::open(rt, name) {
+        Ok(file) => list_file(rt, name, file),
+        Err(e) => eprintln!(rt; "{name}: {e}"),
     }
+}
+
+fn main(rt: HostRuntime) -> io::Result<()> {
+    for name in env::args(&rt)?.skip(1) {
+        list_argument(&rt, &name)?;
+    }
+    Ok(())
 }

@@ -4,39 +4,37 @@
 
 use digest_sha256::Hasher;
 use header_reader::Header;
-use libc::STDOUT_FILENO;
 use mend::MendAnswer;
 use mending::Mark;
+use std::io;
 
-fn print(text: &[u8]) {
-    io::write_all(STDOUT_FILENO, text);
+fn print(rt: &impl Print, text: &str) -> io::Result<()> {
+    rt.print(text)
 }
 
-fn print_number(label: &[u8], n: u64) {
-    print(label);
-    io::print_decimal(STDOUT_FILENO, n);
+fn print_number(rt: &impl Print, label: &str, n: u64) -> io::Result<()> {
+    print!(rt; "{label}{n}")
 }
 
-fn print_hex(label: &[u8], n: u8, digits: usize) {
-    print(label);
-    io::print_hex(STDOUT_FILENO, n as u64, digits);
+fn print_hex(rt: &impl Print, label: &str, n: u8, digits: usize) -> io::Result<()> {
+    print!(rt; "{label}{n:0digits$x}")
 }
 
-fn print_four(label: &[u8], digest: [u8; 32]) {
-    print_hex(label, digest[0], 2);
-    print_hex(b"", digest[1], 2);
-    print_hex(b"", digest[2], 2);
-    print_hex(b"", digest[3], 2);
-    print(b"\n");
+fn print_four(rt: &impl Print, label: &str, digest: [u8; 32]) -> io::Result<()> {
+    print_hex(rt, label, digest[0], 2)?;
+    print_hex(rt, "", digest[1], 2)?;
+    print_hex(rt, "", digest[2], 2)?;
+    print_hex(rt, "", digest[3], 2)?;
+    print(rt, "\n")
 }
 
-fn print_flash(boot: &[u8], update: &[u8], swap: &[u8]) {
+fn print_flash(rt: &impl Print, boot: &[u8], update: &[u8], swap: &[u8]) -> io::Result<()> {
     let all = Hasher::new()
         .absorb(boot)
         .absorb(update)
         .absorb(swap)
         .finish();
-    print_four(b"; digest ", all);
+    print_four(rt, "; digest ", all)
 }
 
 // ---- the flash
@@ -116,7 +114,7 @@ fn tell_mark(n: usize, mark: Mark, bytes: usize) -> [u8; 4] {
         ],
         Mark::All0 => [
             0,
-            (std::num::wrapping_sub_usize(n, 1) % 256) as u8,
+            (n.wrapping_sub(1) % 256) as u8,
             0,
             (bytes % 256) as u8,
         ],
@@ -161,7 +159,7 @@ fn no_tally() -> Tally {
 
 fn more(n: u64, by: bool) -> u64 {
     if by {
-        return std::num::wrapping_add_u64(n, 1);
+        return n.wrapping_add(1);
     }
     n
 }
@@ -189,24 +187,24 @@ fn count(t: Tally, told: [u8; 4], stayed: bool, update: &[u8]) -> Tally {
     }
 }
 
-fn print_mark(t: Tally) {
-    print_number(b" times sector ", t.sector as u64);
-    print_hex(b" flag ", t.flag, 1);
-    print_number(b"; no byte differs in ", t.none);
-    print_number(b", one in ", t.one);
-    print_number(b", two in ", t.two);
-    print_number(b"; the last half byte stays in ", t.stayed);
+fn print_mark(rt: &impl Print, t: Tally) -> io::Result<()> {
+    print_number(rt, " times sector ", t.sector as u64)?;
+    print_hex(rt, " flag ", t.flag, 1)?;
+    print_number(rt, "; no byte differs in ", t.none)?;
+    print_number(rt, ", one in ", t.one)?;
+    print_number(rt, ", two in ", t.two)?;
+    print_number(rt, "; the last half byte stays in ", t.stayed)
 }
 
-fn print_tally(t: Tally) {
-    print_number(b": ", t.alike);
+fn print_tally(rt: &impl Print, t: Tally) -> io::Result<()> {
+    print_number(rt, ": ", t.alike)?;
     if t.number == 0 {
-        print_mark(t);
+        print_mark(rt, t)?;
     } else {
-        print_number(b" times refused ", t.number as u64);
+        print_number(rt, " times refused ", t.number as u64)?;
     }
     let h = t.hasher;
-    print_four(b"; digest ", h.finish());
+    print_four(rt, "; digest ", h.finish())
 }
 
 // ---- mending
@@ -245,13 +243,13 @@ fn mend_one<'a>(
 }
 
 // Each of 256 bytes.
-fn mend_all<'a>(n: usize, size: usize, boot: &'a [u8], update: &'a mut [u8], swap: &'a [u8]) {
+fn mend_all<'a>(rt: &impl Print, n: usize, size: usize, boot: &'a [u8], update: &'a mut [u8], swap: &'a [u8]) -> io::Result<()> {
     let mut t = no_tally();
     for byte in 0..256usize {
         let next = mend_one(n, size, boot, update, swap, byte as u8, t);
         t = next;
     }
-    print_tally(t);
+    print_tally(rt, t)
 }
 
 // ---- the marks
@@ -259,7 +257,7 @@ fn mend_all<'a>(n: usize, size: usize, boot: &'a [u8], update: &'a mut [u8], swa
 // Version 8 over version 7. UPDATE's firmware is six bytes shorter, so that its last block is not full.
 fn arm(boot: &mut [u8], update: &mut [u8], firmware: u32) {
     install(boot, 7, firmware, 0x00);
-    install(update, 8, std::num::wrapping_sub_u32(firmware, 6), 0x70);
+    install(update, 8, firmware.wrapping_sub(6), 0x70);
 }
 
 // The legs are done after nine operations for each firmware sector; then SWAP may hold anything.
@@ -283,63 +281,62 @@ fn power(
 }
 
 // An armed flash goes so far, is mended, and is powered up to the end.
-fn stage<'a>(
-    n: usize,
+fn stage<'a>(rt: &impl Print, n: usize,
     size: usize,
     boot: &'a mut [u8],
     update: &'a mut [u8],
     swap: &'a mut [u8],
-    operations: u64,
-) {
+    operations: u64,) -> io::Result<()> {
     power(n, size, boot, update, swap, operations);
     lose_swap(n, swap, operations);
-    mend_all(n, size, boot, update, swap);
+    mend_all(rt, n, size, boot, update, swap)?;
     let count = power(n, size, boot, update, swap, 100);
-    print_number(b"  then power-up does ", count);
-    print_flash(boot, update, swap);
+    print_number(rt, "  then power-up does ", count)?;
+    print_flash(rt, boot, update, swap)
 }
 
 // Two flags in one byte.
-fn three(operations: u64) {
-    print_number(b"three sectors of 256, operations ", operations);
+fn three(rt: &impl Print, operations: u64) -> io::Result<()> {
+    print_number(rt, "three sectors of 256, operations ", operations)?;
     let mut boot = [0xFFu8; 768];
     let mut update = [0xFFu8; 768];
     let mut swap = [0x5Au8; 256];
     arm(&mut boot, &mut update, 256);
-    stage(3, 256, &mut boot, &mut update, &mut swap, operations);
+    stage(rt, 3, 256, &mut boot, &mut update, &mut swap, operations)
 }
 
 // One flag: the high half of its byte is unused.
-fn two(operations: u64) {
-    print_number(b"two sectors of 512, operations ", operations);
+fn two(rt: &impl Print, operations: u64) -> io::Result<()> {
+    print_number(rt, "two sectors of 512, operations ", operations)?;
     let mut boot = [0xFFu8; 1024];
     let mut update = [0xFFu8; 1024];
     let mut swap = [0x5Au8; 512];
     arm(&mut boot, &mut update, 256);
-    stage(2, 512, &mut boot, &mut update, &mut swap, operations);
+    stage(rt, 2, 512, &mut boot, &mut update, &mut swap, operations)
 }
 
 // Three flags in two bytes, the high half of the second one unused. Both hold the same.
-fn four(operations: u64) {
-    print_number(b"four sectors of 256, operations ", operations);
+fn four(rt: &impl Print, operations: u64) -> io::Result<()> {
+    print_number(rt, "four sectors of 256, operations ", operations)?;
     let mut boot = [0xFFu8; 1024];
     let mut update = [0xFFu8; 1024];
     let mut swap = [0x5Au8; 256];
     arm(&mut boot, &mut update, 512);
-    stage(4, 256, &mut boot, &mut update, &mut swap, operations);
+    stage(rt, 4, 256, &mut boot, &mut update, &mut swap, operations)
 }
 
 // Every number of operations before BOOT is TESTING.
-fn stages() {
+fn stages(rt: &impl Print) -> io::Result<()> {
     for operations in 0..20u64 {
-        three(operations);
+        three(rt, operations)?;
     }
     for operations in 0..11u64 {
-        two(operations);
+        two(rt, operations)?;
     }
     for operations in 0..29u64 {
-        four(operations);
+        four(rt, operations)?;
     }
+    Ok(())
 }
 
 // ---- what is refused, and beside it what is not: three sectors of 256
@@ -350,68 +347,68 @@ fn installed(version: u8, size: u32, status: u8) -> [u8; 768] {
     partition
 }
 
-fn asked(n: usize, size: usize, boot: [u8; 768], update: [u8; 768]) {
+fn asked(rt: &impl Print, n: usize, size: usize, boot: [u8; 768], update: [u8; 768]) -> io::Result<()> {
     let mut u = update;
     let swap = [0x5Au8; 256];
-    mend_all(n, size, &boot, &mut u, &swap);
+    mend_all(rt, n, size, &boot, &mut u, &swap)
 }
 
-fn outside(n: usize, size: usize) {
-    print_number(b"768 bytes, n ", n as u64);
-    print_number(b" S ", size as u64);
-    asked(n, size, installed(7, 256, 0x70), installed(8, 256, 0xFF));
+fn outside(rt: &impl Print, n: usize, size: usize) -> io::Result<()> {
+    print_number(rt, "768 bytes, n ", n as u64)?;
+    print_number(rt, " S ", size as u64)?;
+    asked(rt, n, size, installed(7, 256, 0x70), installed(8, 256, 0xFF))
 }
 
-fn outsides() {
-    outside(2, 256);
-    outside(2, 384);
-    outside(3, 512);
-    outside(4, 256);
-    outside(1, 768);
+fn outsides(rt: &impl Print) -> io::Result<()> {
+    outside(rt, 2, 256)?;
+    outside(rt, 2, 384)?;
+    outside(rt, 3, 512)?;
+    outside(rt, 4, 256)?;
+    outside(rt, 1, 768)
 }
 
-fn statuses(boot: u8, update: u8) {
-    print_hex(b"BOOT status ", boot, 2);
-    print_hex(b" UPDATE status ", update, 2);
-    asked(3, 256, installed(7, 256, boot), installed(8, 256, update));
+fn statuses(rt: &impl Print, boot: u8, update: u8) -> io::Result<()> {
+    print_hex(rt, "BOOT status ", boot, 2)?;
+    print_hex(rt, " UPDATE status ", update, 2)?;
+    asked(rt, 3, 256, installed(7, 256, boot), installed(8, 256, update))
 }
 
 // NEW, UPDATING, TESTING and SUCCESS.
-fn pairs_with(boot: u8) {
-    statuses(boot, 0xFF);
-    statuses(boot, 0x70);
-    statuses(boot, 0x10);
-    statuses(boot, 0x00);
+fn pairs_with(rt: &impl Print, boot: u8) -> io::Result<()> {
+    statuses(rt, boot, 0xFF)?;
+    statuses(rt, boot, 0x70)?;
+    statuses(rt, boot, 0x10)?;
+    statuses(rt, boot, 0x00)
 }
 
-fn pairs() {
-    pairs_with(0xFF);
-    pairs_with(0x70);
-    pairs_with(0x10);
-    pairs_with(0x00);
+fn pairs(rt: &impl Print) -> io::Result<()> {
+    pairs_with(rt, 0xFF)?;
+    pairs_with(rt, 0x70)?;
+    pairs_with(rt, 0x10)?;
+    pairs_with(rt, 0x00)
 }
 
-fn images(boot: u8, boot_size: u32, update: u8, update_size: u32) {
-    print_number(b"BOOT version ", boot as u64);
-    print_number(b" size ", boot_size as u64);
-    print_number(b" UPDATE version ", update as u64);
-    print_number(b" size ", update_size as u64);
-    asked(
+fn images(rt: &impl Print, boot: u8, boot_size: u32, update: u8, update_size: u32) -> io::Result<()> {
+    print_number(rt, "BOOT version ", boot as u64)?;
+    print_number(rt, " size ", boot_size as u64)?;
+    print_number(rt, " UPDATE version ", update as u64)?;
+    print_number(rt, " size ", update_size as u64)?;
+    asked(rt, 
         3,
         256,
         installed(boot, boot_size, 0x00),
         installed(update, update_size, 0x70),
-    );
+    )
 }
 
 // With versions 7 and 6 the bytes are those of an update that is done. The largest firmware has 256 bytes.
-fn stated() {
-    images(7, 256, 7, 256);
-    images(7, 256, 6, 256);
-    images(7, 256, 8, 1);
-    images(7, 193, 8, 192);
-    images(7, 257, 8, 256);
-    images(7, 256, 8, 257);
+fn stated(rt: &impl Print) -> io::Result<()> {
+    images(rt, 7, 256, 7, 256)?;
+    images(rt, 7, 256, 6, 256)?;
+    images(rt, 7, 256, 8, 1)?;
+    images(rt, 7, 193, 8, 192)?;
+    images(rt, 7, 257, 8, 256)?;
+    images(rt, 7, 256, 8, 257)
 }
 
 fn with_0(partition: [u8; 768], at: usize) -> [u8; 768] {
@@ -422,30 +419,30 @@ fn with_0(partition: [u8; 768], at: usize) -> [u8; 768] {
     p
 }
 
-fn damaged(boot: usize, update: usize) {
-    print_number(b"a byte 00 in BOOT at ", boot as u64);
-    print_number(b" in UPDATE at ", update as u64);
-    asked(
+fn damaged(rt: &impl Print, boot: usize, update: usize) -> io::Result<()> {
+    print_number(rt, "a byte 00 in BOOT at ", boot as u64)?;
+    print_number(rt, " in UPDATE at ", update as u64)?;
+    asked(rt, 
         3,
         256,
         with_0(installed(7, 256, 0x00), boot),
         with_0(installed(8, 256, 0x70), update),
-    );
+    )
 }
 
 // The firmware ends at 511, and the trailers begin at 512.
-fn damages() {
-    damaged(0, 512);
-    damaged(511, 512);
-    damaged(512, 0);
-    damaged(512, 511);
-    damaged(512, 512);
+fn damages(rt: &impl Print) -> io::Result<()> {
+    damaged(rt, 0, 512)?;
+    damaged(rt, 511, 512)?;
+    damaged(rt, 512, 0)?;
+    damaged(rt, 512, 511)?;
+    damaged(rt, 512, 512)
 }
 
-fn main() {
-    stages();
-    outsides();
-    pairs();
-    stated();
-    damages();
+fn main(rt: HostRuntime) -> io::Result<()> {
+    stages(&rt)?;
+    outsides(&rt)?;
+    pairs(&rt)?;
+    stated(&rt)?;
+    damages(&rt)
 }

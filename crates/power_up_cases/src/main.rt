@@ -5,9 +5,9 @@
 use digest_sha256::Hasher;
 use exchange_commands::CommandAnswer;
 use header_reader::Header;
-use libc::STDOUT_FILENO;
 use numbers::{RefusedInside, TurnDownReason};
 use power_up::Outcome;
+use std::io;
 
 const SECTORS: usize = 3;
 
@@ -15,18 +15,16 @@ const SIZE: usize = 256;
 
 const PARTITION: usize = 768;
 
-fn print(text: &[u8]) {
-    io::write_all(STDOUT_FILENO, text);
+fn print(rt: &impl Print, text: &str) -> io::Result<()> {
+    rt.print(text)
 }
 
-fn print_number(label: &[u8], n: u64) {
-    print(label);
-    io::print_decimal(STDOUT_FILENO, n);
+fn print_number(rt: &impl Print, label: &str, n: u64) -> io::Result<()> {
+    print!(rt; "{label}{n}")
 }
 
-fn print_byte(label: &[u8], b: u8) {
-    print(label);
-    io::print_hex(STDOUT_FILENO, b as u64, 2);
+fn print_byte(rt: &impl Print, label: &str, b: u8) -> io::Result<()> {
+    print!(rt; "{label}{b:02x}")
 }
 
 // ---- the flash
@@ -74,109 +72,113 @@ fn partition_of(version: u8, status: u8) -> [u8; PARTITION] {
 // ---- what is printed
 
 // A refusal by its number, with the own number and place of a bad image within it.
-fn print_refused(r: RefusedInside) {
-    print_number(b"refused ", r.number as u64);
+fn print_refused(rt: &impl Print, r: RefusedInside) -> io::Result<()> {
+    print_number(rt, "refused ", r.number as u64)?;
     if r.inner != 0 {
-        print_number(b" for ", r.inner as u64);
-        print_number(b" at ", r.place as u64);
+        print_number(rt, " for ", r.inner as u64)?;
+        print_number(rt, " at ", r.place as u64)?;
     }
+    Ok(())
 }
 
-fn print_outcome(o: Outcome) {
+fn print_outcome(rt: &impl Print, o: Outcome) -> io::Result<()> {
     match o {
-        Outcome::Refused(r) => print_refused(numbers::of_power_up(r)),
-        Outcome::Cut => print(b"cut"),
-        Outcome::Run => print(b"run"),
-        Outcome::RunOnTest => print(b"run on test"),
-        Outcome::RunFallenBack => print(b"run, fallen back"),
+        Outcome::Refused(r) => print_refused(rt, numbers::of_power_up(r)),
+        Outcome::Cut => print(rt, "cut"),
+        Outcome::Run => print(rt, "run"),
+        Outcome::RunOnTest => print(rt, "run on test"),
+        Outcome::RunFallenBack => print(rt, "run, fallen back"),
     }
 }
 
-fn print_reason(r: TurnDownReason) {
+fn print_reason(rt: &impl Print, r: TurnDownReason) -> io::Result<()> {
     let why = numbers::of_reason(r);
     if why.number != 0 {
-        print_number(b", turned down with ", why.number as u64);
-        print_number(b" at ", why.place as u64);
+        print_number(rt, ", turned down with ", why.number as u64)?;
+        print_number(rt, " at ", why.place as u64)?;
     }
+    Ok(())
 }
 
-fn print_answer(outcome: Outcome, count: u64, reason: TurnDownReason) {
-    print_outcome(outcome);
-    print_number(b" with ", count);
-    print_reason(reason);
+fn print_answer(rt: &impl Print, outcome: Outcome, count: u64, reason: TurnDownReason) -> io::Result<()> {
+    print_outcome(rt, outcome)?;
+    print_number(rt, " with ", count)?;
+    print_reason(rt, reason)
 }
 
-fn print_trailers(boot: [u8; PARTITION], update: [u8; PARTITION]) {
-    print_byte(b"; boot ", boot[767]);
-    print_byte(b" update ", update[767]);
-    print_byte(b" flags ", update[766]);
+fn print_trailers(rt: &impl Print, boot: [u8; PARTITION], update: [u8; PARTITION]) -> io::Result<()> {
+    print_byte(rt, "; boot ", boot[767])?;
+    print_byte(rt, " update ", update[767])?;
+    print_byte(rt, " flags ", update[766])
 }
 
-fn print_four(digest: [u8; 32]) {
-    print_byte(b" bytes ", digest[0]);
-    print_byte(b"", digest[1]);
-    print_byte(b"", digest[2]);
-    print_byte(b"", digest[3]);
-    print(b"\n");
+fn print_four(rt: &impl Print, digest: [u8; 32]) -> io::Result<()> {
+    print_byte(rt, " bytes ", digest[0])?;
+    print_byte(rt, "", digest[1])?;
+    print_byte(rt, "", digest[2])?;
+    print_byte(rt, "", digest[3])?;
+    print(rt, "\n")
 }
 
 // The status bytes, the flag byte, and the first bytes of the digest of the whole flash.
-fn print_flash(boot: [u8; PARTITION], update: [u8; PARTITION], swap: [u8; SIZE]) {
-    print_trailers(boot, update);
+fn print_flash(rt: &impl Print, boot: [u8; PARTITION], update: [u8; PARTITION], swap: [u8; SIZE]) -> io::Result<()> {
+    print_trailers(rt, boot, update)?;
     let all = Hasher::new()
         .absorb(&boot)
         .absorb(&update)
         .absorb(&swap)
         .finish();
-    print_four(all);
+    print_four(rt, all)
 }
 
 // ---- the runs
 
 // A power-up, and what it answers.
-fn power(boot: &mut [u8], update: &mut [u8], swap: &mut [u8], budget: u64) {
-    print_number(b"", budget);
-    print(b" ");
+fn power(rt: &impl Print, boot: &mut [u8], update: &mut [u8], swap: &mut [u8], budget: u64) -> io::Result<()> {
+    print_number(rt, "", budget)?;
+    print(rt, " ")?;
     let x = power_up::power_up(SECTORS, SIZE, boot, update, swap, budget);
     let outcome = x.outcome;
     let reason = x.reason;
-    print_answer(outcome, x.count, reason);
+    print_answer(rt, outcome, x.count, reason)
 }
 
 // Two power-ups, one after the other.
-fn two(boot: [u8; PARTITION], update: [u8; PARTITION], swap: [u8; SIZE], first: u64, second: u64) {
+fn two(rt: &impl Print, boot: [u8; PARTITION], update: [u8; PARTITION], swap: [u8; SIZE], first: u64, second: u64) -> io::Result<()> {
     let mut b = boot;
     let mut u = update;
     let mut s = swap;
-    power(&mut b, &mut u, &mut s, first);
-    print(b"; ");
-    power(&mut b, &mut u, &mut s, second);
-    print_flash(b, u, s);
+    power(rt, &mut b, &mut u, &mut s, first)?;
+    print(rt, "; ")?;
+    power(rt, &mut b, &mut u, &mut s, second)?;
+    print_flash(rt, b, u, s)
 }
 
 // One power-up.
-fn one(boot: [u8; PARTITION], update: [u8; PARTITION], swap: [u8; SIZE], budget: u64) {
+fn one(rt: &impl Print, boot: [u8; PARTITION], update: [u8; PARTITION], swap: [u8; SIZE], budget: u64) -> io::Result<()> {
     let mut b = boot;
     let mut u = update;
     let mut s = swap;
-    power(&mut b, &mut u, &mut s, budget);
-    print_flash(b, u, s);
+    power(rt, &mut b, &mut u, &mut s, budget)?;
+    print_flash(rt, b, u, s)
 }
 
-fn pairs_from(boot: [u8; PARTITION], update: [u8; PARTITION], swap: [u8; SIZE], first: u64) {
+fn pairs_from(rt: &impl Print, boot: [u8; PARTITION], update: [u8; PARTITION], swap: [u8; SIZE], first: u64) -> io::Result<()> {
     for second in 0..26 {
-        two(boot, update, swap, first, second);
+        two(rt, boot, update, swap, first, second)?;
     }
+    Ok(())
 }
 
 // Every budget, then every pair of budgets.
-fn budgets(boot: [u8; PARTITION], update: [u8; PARTITION], swap: [u8; SIZE]) {
+fn budgets(rt: &impl Print, boot: [u8; PARTITION], update: [u8; PARTITION], swap: [u8; SIZE]) -> io::Result<()> {
     for budget in 0..26 {
-        one(boot, update, swap, budget);
+        one(rt, boot, update, swap, budget)?;
     }
     for first in 0..26 {
-        pairs_from(boot, update, swap, first);
+        pairs_from(rt, boot, update, swap, first)?;
     }
+    Ok(())
 }
 
 fn with_byte(partition: [u8; PARTITION], at: usize, value: u8) -> [u8; PARTITION] {
@@ -188,151 +190,151 @@ fn with_byte(partition: [u8; PARTITION], at: usize, value: u8) -> [u8; PARTITION
 }
 
 // The same three budgets for each start that is turned down, refused or plain.
-fn few(label: &[u8], boot: [u8; PARTITION], update: [u8; PARTITION]) {
-    print(label);
-    print(b"\n");
+fn few(rt: &impl Print, label: &str, boot: [u8; PARTITION], update: [u8; PARTITION]) -> io::Result<()> {
+    print(rt, label)?;
+    print(rt, "\n")?;
     let swap = [0x5Au8; SIZE];
-    one(boot, update, swap, 0);
-    one(boot, update, swap, 1);
-    one(boot, update, swap, 100);
+    one(rt, boot, update, swap, 0)?;
+    one(rt, boot, update, swap, 1)?;
+    one(rt, boot, update, swap, 100)
 }
 
 // A start by its versions and statuses.
-fn start(label: &[u8], boot: u8, boot_status: u8, update: u8, update_status: u8) {
-    few(
+fn start(rt: &impl Print, label: &str, boot: u8, boot_status: u8, update: u8, update_status: u8) -> io::Result<()> {
+    few(rt, 
         label,
         partition_of(boot, boot_status),
         partition_of(update, update_status),
-    );
+    )
 }
 
 // An update from version 7 to 8 with a byte of BOOT and one of UPDATE set. The bytes at 767 are the statuses.
-fn update(label: &[u8], boot_at: usize, boot_byte: u8, update_at: usize, update_byte: u8) {
-    few(
+fn update(rt: &impl Print, label: &str, boot_at: usize, boot_byte: u8, update_at: usize, update_byte: u8) -> io::Result<()> {
+    few(rt, 
         label,
         with_byte(partition_of(7, 0x00), boot_at, boot_byte),
         with_byte(partition_of(8, 0x70), update_at, update_byte),
-    );
+    )
 }
 
 // The same for a fallback from version 7 to 6.
-fn fallback(label: &[u8], boot_at: usize, boot_byte: u8, update_at: usize, update_byte: u8) {
-    few(
+fn fallback(rt: &impl Print, label: &str, boot_at: usize, boot_byte: u8, update_at: usize, update_byte: u8) -> io::Result<()> {
+    few(rt, 
         label,
         with_byte(partition_of(7, 0x10), boot_at, boot_byte),
         with_byte(partition_of(6, 0xFF), update_at, update_byte),
-    );
+    )
 }
 
-fn turned_down() {
-    start(b"equal versions", 7, 0x00, 7, 0x70);
-    start(b"older version", 7, 0x00, 6, 0x70);
-    start(b"one more", 7, 0x00, 8, 0x70);
+fn turned_down(rt: &impl Print) -> io::Result<()> {
+    start(rt, "equal versions", 7, 0x00, 7, 0x70)?;
+    start(rt, "older version", 7, 0x00, 6, 0x70)?;
+    start(rt, "one more", 7, 0x00, 8, 0x70)
 }
 
-fn bad_images() {
-    update(b"bad UPDATE", 767, 0x00, 300, 0);
-    update(b"bad UPDATE header", 767, 0x00, 0, 0);
-    update(b"bad BOOT", 511, 0, 767, 0x70);
-    update(b"both bad", 511, 0, 300, 0);
+fn bad_images(rt: &impl Print) -> io::Result<()> {
+    update(rt, "bad UPDATE", 767, 0x00, 300, 0)?;
+    update(rt, "bad UPDATE header", 767, 0x00, 0, 0)?;
+    update(rt, "bad BOOT", 511, 0, 767, 0x70)?;
+    update(rt, "both bad", 511, 0, 300, 0)
 }
 
-fn statuses() {
-    start(b"BOOT is NEW", 7, 0xFF, 8, 0x70);
-    start(b"BOOT status 70", 7, 0x70, 8, 0x70);
-    start(b"UPDATE status 10", 7, 0x00, 8, 0x10);
+fn statuses(rt: &impl Print) -> io::Result<()> {
+    start(rt, "BOOT is NEW", 7, 0xFF, 8, 0x70)?;
+    start(rt, "BOOT status 70", 7, 0x70, 8, 0x70)?;
+    start(rt, "UPDATE status 10", 7, 0x00, 8, 0x10)
 }
 
-fn flags() {
-    update(b"flag byte 7F", 767, 0x00, 766, 0x7F);
-    update(b"flag byte F7", 767, 0x00, 766, 0xF7);
-    update(b"flag byte F1", 767, 0x00, 766, 0xF1);
-    update(b"flag byte 00", 767, 0x00, 766, 0x00);
+fn flags(rt: &impl Print) -> io::Result<()> {
+    update(rt, "flag byte 7F", 767, 0x00, 766, 0x7F)?;
+    update(rt, "flag byte F7", 767, 0x00, 766, 0xF7)?;
+    update(rt, "flag byte F1", 767, 0x00, 766, 0xF1)?;
+    update(rt, "flag byte 00", 767, 0x00, 766, 0x00)
 }
 
-fn closing() {
-    start(b"TESTING and UPDATING, flags F", 7, 0x10, 8, 0x70);
-    update(b"TESTING and UPDATING, flags 0", 767, 0x10, 766, 0x00);
-    update(b"TESTING and UPDATING, flag byte F7", 767, 0x10, 766, 0xF7);
+fn closing(rt: &impl Print) -> io::Result<()> {
+    start(rt, "TESTING and UPDATING, flags F", 7, 0x10, 8, 0x70)?;
+    update(rt, "TESTING and UPDATING, flags 0", 767, 0x10, 766, 0x00)?;
+    update(rt, "TESTING and UPDATING, flag byte F7", 767, 0x10, 766, 0xF7)
 }
 
-fn plain() {
-    start(b"plain", 7, 0x00, 8, 0xFF);
-    update(b"plain, bad BOOT", 511, 0, 767, 0xFF);
+fn plain(rt: &impl Print) -> io::Result<()> {
+    start(rt, "plain", 7, 0x00, 8, 0xFF)?;
+    update(rt, "plain, bad BOOT", 511, 0, 767, 0xFF)
 }
 
-fn fallbacks() {
-    fallback(b"fallback, bad UPDATE", 767, 0x10, 300, 0);
-    fallback(b"fallback, bad BOOT", 511, 0, 767, 0xFF);
-    fallback(b"fallback, flag byte 7F", 767, 0x10, 766, 0x7F);
+fn fallbacks(rt: &impl Print) -> io::Result<()> {
+    fallback(rt, "fallback, bad UPDATE", 767, 0x10, 300, 0)?;
+    fallback(rt, "fallback, bad BOOT", 511, 0, 767, 0xFF)?;
+    fallback(rt, "fallback, flag byte 7F", 767, 0x10, 766, 0x7F)
 }
 
-fn print_command(answer: CommandAnswer) {
+fn print_command(rt: &impl Print, answer: CommandAnswer) -> io::Result<()> {
     match answer {
-        CommandAnswer::Done(n) => print_number(b"done with ", n),
-        CommandAnswer::Refused(r) => print_number(b"refused ", numbers::of_command(r) as u64),
+        CommandAnswer::Done(n) => print_number(rt, "done with ", n),
+        CommandAnswer::Refused(r) => print_number(rt, "refused ", numbers::of_command(r) as u64),
     }
 }
 
-fn arm(boot: [u8; PARTITION], update: [u8; PARTITION]) {
+fn arm(rt: &impl Print, boot: [u8; PARTITION], update: [u8; PARTITION]) -> io::Result<()> {
     let mut b = boot;
     let mut u = update;
     let mut s = [0x5Au8; SIZE];
-    print(b"arm ");
-    print_command(exchange_commands::arm(SECTORS, SIZE, &mut b, &mut u, &mut s));
-    print_flash(b, u, s);
+    print(rt, "arm ")?;
+    print_command(rt, exchange_commands::arm(SECTORS, SIZE, &mut b, &mut u, &mut s))?;
+    print_flash(rt, b, u, s)
 }
 
-fn confirm(boot: [u8; PARTITION], update: [u8; PARTITION]) {
+fn confirm(rt: &impl Print, boot: [u8; PARTITION], update: [u8; PARTITION]) -> io::Result<()> {
     let mut b = boot;
     let mut u = update;
     let mut s = [0x5Au8; SIZE];
-    print(b"confirm ");
-    print_command(exchange_commands::confirm(SECTORS, SIZE, &mut b, &mut u, &mut s));
-    print_flash(b, u, s);
+    print(rt, "confirm ")?;
+    print_command(rt, exchange_commands::confirm(SECTORS, SIZE, &mut b, &mut u, &mut s))?;
+    print_flash(rt, b, u, s)
 }
 
 // Arm, and confirm, from the same start.
-fn both(label: &[u8], boot_status: u8, update_status: u8, flags: u8) {
+fn both(rt: &impl Print, label: &str, boot_status: u8, update_status: u8, flags: u8) -> io::Result<()> {
     let boot = partition_of(7, boot_status);
     let update = with_byte(partition_of(8, update_status), 766, flags);
-    print(label);
-    print(b"\n");
-    arm(boot, update);
-    confirm(boot, update);
+    print(rt, label)?;
+    print(rt, "\n")?;
+    arm(rt, boot, update)?;
+    confirm(rt, boot, update)
 }
 
-fn at_rest() {
-    both(b"SUCCESS, NEW", 0x00, 0xFF, 0xFF);
-    both(b"NEW, NEW", 0xFF, 0xFF, 0xFF);
-    both(b"TESTING, NEW", 0x10, 0xFF, 0xFF);
+fn at_rest(rt: &impl Print) -> io::Result<()> {
+    both(rt, "SUCCESS, NEW", 0x00, 0xFF, 0xFF)?;
+    both(rt, "NEW, NEW", 0xFF, 0xFF, 0xFF)?;
+    both(rt, "TESTING, NEW", 0x10, 0xFF, 0xFF)
 }
 
-fn at_work() {
-    both(b"SUCCESS, UPDATING", 0x00, 0x70, 0xFF);
-    both(b"TESTING, UPDATING", 0x10, 0x70, 0xFF);
-    both(b"UPDATING, NEW", 0x70, 0xFF, 0xFF);
-    both(b"TESTING, NEW, flag byte 7F", 0x10, 0xFF, 0x7F);
-    both(b"TESTING, NEW, flag byte F7", 0x10, 0xFF, 0xF7);
+fn at_work(rt: &impl Print) -> io::Result<()> {
+    both(rt, "SUCCESS, UPDATING", 0x00, 0x70, 0xFF)?;
+    both(rt, "TESTING, UPDATING", 0x10, 0x70, 0xFF)?;
+    both(rt, "UPDATING, NEW", 0x70, 0xFF, 0xFF)?;
+    both(rt, "TESTING, NEW, flag byte 7F", 0x10, 0xFF, 0x7F)?;
+    both(rt, "TESTING, NEW, flag byte F7", 0x10, 0xFF, 0xF7)
 }
 
-fn exchanges() {
+fn exchanges(rt: &impl Print) -> io::Result<()> {
     let swap = [0x5Au8; SIZE];
-    print(b"update\n");
-    budgets(partition_of(7, 0x00), partition_of(8, 0x70), swap);
-    print(b"fallback\n");
-    budgets(partition_of(7, 0x10), partition_of(6, 0xFF), swap);
+    print(rt, "update\n")?;
+    budgets(rt, partition_of(7, 0x00), partition_of(8, 0x70), swap)?;
+    print(rt, "fallback\n")?;
+    budgets(rt, partition_of(7, 0x10), partition_of(6, 0xFF), swap)
 }
 
-fn main() {
-    exchanges();
-    turned_down();
-    bad_images();
-    statuses();
-    flags();
-    closing();
-    plain();
-    fallbacks();
-    at_rest();
-    at_work();
+fn main(rt: HostRuntime) -> io::Result<()> {
+    exchanges(&rt)?;
+    turned_down(&rt)?;
+    bad_images(&rt)?;
+    statuses(&rt)?;
+    flags(&rt)?;
+    closing(&rt)?;
+    plain(&rt)?;
+    fallbacks(&rt)?;
+    at_rest(&rt)?;
+    at_work(&rt)
 }

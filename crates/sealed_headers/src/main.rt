@@ -1,34 +1,39 @@
 // Reads the headers that stand one behind another in standard input, 256 bytes each, by the sealed profile. Prints a line for each.
 #![tactic(auto)]
 
-use libc::{STDIN_FILENO, STDOUT_FILENO};
+use std::io;
+use std::io::Read;
 
 // As many as are read at most.
 const MOST_HEADERS: usize = 4096;
 
 // Reads the next header. Says whether there was a byte of it.
-fn read_next() -> bool {
-    let mut header = [0u8; header_tags::HEADER_LENGTH];
-    let n = io::read_full(STDIN_FILENO, &mut header);
-    if n == 0 {
-        return false;
+fn read_next(rt: &(impl Input + Alloc + Print)) -> io::Result<bool> {
+    let mut header = Vec::new(rt.alloc());
+    rt.reader()
+        .take(header_tags::HEADER_LENGTH as u64)
+        .read_to_end(&mut header)?;
+    if header.is_empty() {
+        return Ok(false);
     }
-    let read = header_sealed::read_sealed(&header[..n]);
+    let read = header_sealed::read_sealed(&header);
     let outcome = read.outcome;
     let refused = numbers::of_sealed(outcome);
     if refused.number == 0 {
-        io::write_all(STDOUT_FILENO, b"sealed\n");
-        return true;
+        println!(rt; "sealed")?;
+        return Ok(true);
     }
     let mut text = [0u8; 128];
     let k = listing_lines::put_refusal(&mut text, refused.number as usize, refused.place);
-    io::write_all(STDOUT_FILENO, &text[..k]);
-    true
+    rt.write_all(&text[..k])?;
+    Ok(true)
 }
 
-fn main() {
-    let mut left = MOST_HEADERS;
-    while 0 < left && read_next() {
-        left -= 1;
+fn main(rt: HostRuntime) -> io::Result<()> {
+    for _ in 0..MOST_HEADERS {
+        if !read_next(&rt)? {
+            break;
+        }
     }
+    Ok(())
 }

@@ -3,76 +3,72 @@
 #![tactic(auto)]
 
 use header_tags::Tag;
-use libc::STDOUT_FILENO;
+use std::io::Read;
+use std::rt::Runtime;
+use std::{env, fs, io};
 
 // A header has 62 tags at most, so that call number 62, the 63rd, is the end or a refusal at the latest.
 const MOST_CALLS: usize = 63;
 
-fn print(words: &[u8], n: usize) {
-    io::write_all(STDOUT_FILENO, words);
-    io::print_decimal(STDOUT_FILENO, n as u64);
+fn print(rt: &impl Print, words: &str, n: usize) -> io::Result<()> {
+    print!(rt; "{words}{n}")
 }
 
-fn print_refusal(number: usize, place: usize) {
-    print(b"refused ", number);
-    print(b" at ", place);
-    io::write_all(STDOUT_FILENO, b"\n");
+fn print_refusal(rt: &impl Print, number: usize, place: usize) -> io::Result<()> {
+    print(rt, "refused ", number)?;
+    print(rt, " at ", place)?;
+    println!(rt)
 }
 
 // Prints an answer, and says whether it is a tag.
-fn print_answer(t: Tag) -> bool {
+fn print_answer(rt: &impl Print, t: Tag) -> io::Result<bool> {
     match t {
         Tag::Found {
             place,
             kind,
             length,
         } => {
-            print(b"place ", place);
-            print(b" type ", kind);
-            print(b" length ", length);
-            io::write_all(STDOUT_FILENO, b"\n");
-            return true;
+            print(rt, "place ", place)?;
+            print(rt, " type ", kind)?;
+            print(rt, " length ", length)?;
+            println!(rt)?;
+            return Ok(true);
         }
-        Tag::End => {
-            io::write_all(STDOUT_FILENO, b"end\n");
-        }
-        Tag::TooShort => print_refusal(16, 0),
-        Tag::DoesNotFit(place) => print_refusal(4, place),
-        Tag::NoEnd(place) => print_refusal(7, place),
+        Tag::End => println!(rt; "end")?,
+        Tag::TooShort => print_refusal(rt, 16, 0)?,
+        Tag::DoesNotFit(place) => print_refusal(rt, 4, place)?,
+        Tag::NoEnd(place) => print_refusal(rt, 7, place)?,
     }
-    false
+    Ok(false)
 }
 
-fn print_walk(header: &[u8]) {
+fn print_walk(rt: &impl Print, header: &[u8]) -> io::Result<()> {
     let mut n = 0;
-    while n < MOST_CALLS && print_answer(header_walker::nth(header, n)) {
+    while n < MOST_CALLS && print_answer(rt, header_walker::nth(header, n))? {
         n += 1;
     }
-    print_answer(header_walker::nth(header, n + 1));
+    print_answer(rt, header_walker::nth(header, n + 1))?;
+    Ok(())
 }
 
-fn walk_file(name: &[u8]) {
-    let fd = os::open_read(name);
-    if fd < 0 {
-        os::fail(name);
-        return;
+fn walk_file<F: Read + Drop>(rt: &(impl Print + Alloc), name: &str, file: F) -> io::Result<()> {
+    let mut header = Vec::new(rt.alloc());
+    file.take(header_tags::HEADER_LENGTH as u64)
+        .read_to_end(&mut header)?;
+    println!(rt; "{name}")?;
+    print_walk(rt, &header)
+}
+
+fn walk_argument(rt: &impl Runtime, name: &str) -> io::Result<()> {
+    match fs::open(rt, name) {
+        Ok(file) => walk_file(rt, name, file),
+        Err(e) => eprintln!(rt; "{name}: {e}"),
     }
-    let mut header = [0u8; header_tags::HEADER_LENGTH];
-    let n = io::read_full(fd, &mut header);
-    libc::close(fd);
-    io::write_all(STDOUT_FILENO, name);
-    io::write_all(STDOUT_FILENO, b"\n");
-    print_walk(&header[..n]);
 }
 
-fn walk_argument(i: usize) {
-    let mut name = io::buffer();
-    let n = os::arg(i, &mut name);
-    walk_file(&name[..n]);
-}
-
-fn main() {
-    for i in 1..os::arg_count() {
-        walk_argument(i);
+fn main(rt: HostRuntime) -> io::Result<()> {
+    for name in env::args(&rt)?.skip(1) {
+        walk_argument(&rt, &name)?;
     }
+    Ok(())
 }
