@@ -41,7 +41,14 @@ fn sizes(rt: &impl Print, n: usize) -> io::Result<()> {
     geometry(rt, n, 131328)
 }
 
-fn buffers(rt: &impl Print, n: usize, size: usize, boot: &[u8], update: &[u8], swap: &[u8]) -> io::Result<()> {
+fn buffers(
+    rt: &impl Print,
+    n: usize,
+    size: usize,
+    boot: &[u8],
+    update: &[u8],
+    swap: &[u8],
+) -> io::Result<()> {
     print_number(rt, "n ", n)?;
     print_number(rt, " S ", size)?;
     print_number(rt, " BOOT ", boot.len())?;
@@ -56,8 +63,23 @@ fn first(s: &[u8], n: usize) -> &[u8] {
 }
 
 // Buffers that are the first so many bytes of s.
-fn sized(rt: &impl Print, s: &[u8], n: usize, size: usize, boot: usize, update: usize, swap: usize) -> io::Result<()> {
-    buffers(rt, n, size, first(s, boot), first(s, update), first(s, swap))
+fn sized(
+    rt: &impl Print,
+    s: &[u8],
+    n: usize,
+    size: usize,
+    boot: usize,
+    update: usize,
+    swap: usize,
+) -> io::Result<()> {
+    buffers(
+        rt,
+        n,
+        size,
+        first(s, boot),
+        first(s, update),
+        first(s, swap),
+    )
 }
 
 fn boot_lengths(rt: &impl Print, s: &[u8]) -> io::Result<()> {
@@ -156,7 +178,14 @@ fn write(s: &mut [u8], at: usize, byte: u8) {
 }
 
 // A byte of a partition is written and told.
-fn put(rt: &impl Print, n: usize, size: usize, s: &mut [u8], at: usize, byte: u8) -> io::Result<()> {
+fn put(
+    rt: &impl Print,
+    n: usize,
+    size: usize,
+    s: &mut [u8],
+    at: usize,
+    byte: u8,
+) -> io::Result<()> {
     write(s, at, byte);
     print_number(rt, "n ", n)?;
     print_number(rt, " S ", size)?;
@@ -165,7 +194,14 @@ fn put(rt: &impl Print, n: usize, size: usize, s: &mut [u8], at: usize, byte: u8
 }
 
 // The byte as a status of BOOT and of UPDATE.
-fn status(rt: &impl Print, n: usize, size: usize, s: &mut [u8], at: usize, byte: u8) -> io::Result<()> {
+fn status(
+    rt: &impl Print,
+    n: usize,
+    size: usize,
+    s: &mut [u8],
+    at: usize,
+    byte: u8,
+) -> io::Result<()> {
     put(rt, n, size, s, at, byte)?;
     print(rt, ": BOOT")?;
     boot_status(rt, n, size, s)?;
@@ -189,7 +225,7 @@ fn print_flags(rt: &impl Print, flags: Flags) -> io::Result<()> {
         Flags::All0 => print(rt, ": all 0\n"),
         Flags::At(i, leg) => {
             print_number(rt, ": sector ", i.0)?;
-            print_leg(rt, leg)?;
+            print_leg(rt, leg)
         }
     }
 }
@@ -202,7 +238,14 @@ fn flags(rt: &impl Print, n: usize, size: usize, update: &[u8]) -> io::Result<()
 }
 
 // What the flags show with this byte.
-fn shown(rt: &impl Print, n: usize, size: usize, s: &mut [u8], at: usize, byte: u8) -> io::Result<()> {
+fn shown(
+    rt: &impl Print,
+    n: usize,
+    size: usize,
+    s: &mut [u8],
+    at: usize,
+    byte: u8,
+) -> io::Result<()> {
     put(rt, n, size, s, at, byte)?;
     flags(rt, n, size, s)
 }

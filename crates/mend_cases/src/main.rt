@@ -112,12 +112,7 @@ fn tell_mark(n: usize, mark: Mark, bytes: usize) -> [u8; 4] {
             leg.flag().value(),
             (bytes % 256) as u8,
         ],
-        Mark::All0 => [
-            0,
-            (n.wrapping_sub(1) % 256) as u8,
-            0,
-            (bytes % 256) as u8,
-        ],
+        Mark::All0 => [0, (n.wrapping_sub(1) % 256) as u8, 0, (bytes % 256) as u8],
     }
 }
 
@@ -243,7 +238,14 @@ fn mend_one<'a>(
 }
 
 // Each of 256 bytes.
-fn mend_all<'a>(rt: &impl Print, n: usize, size: usize, boot: &'a [u8], update: &'a mut [u8], swap: &'a [u8]) -> io::Result<()> {
+fn mend_all<'a>(
+    rt: &impl Print,
+    n: usize,
+    size: usize,
+    boot: &'a [u8],
+    update: &'a mut [u8],
+    swap: &'a [u8],
+) -> io::Result<()> {
     let mut t = no_tally();
     for byte in 0..256usize {
         let next = mend_one(n, size, boot, update, swap, byte as u8, t);
@@ -281,12 +283,15 @@ fn power(
 }
 
 // An armed flash goes so far, is mended, and is powered up to the end.
-fn stage<'a>(rt: &impl Print, n: usize,
+fn stage<'a>(
+    rt: &impl Print,
+    n: usize,
     size: usize,
     boot: &'a mut [u8],
     update: &'a mut [u8],
     swap: &'a mut [u8],
-    operations: u64,) -> io::Result<()> {
+    operations: u64,
+) -> io::Result<()> {
     power(n, size, boot, update, swap, operations);
     lose_swap(n, swap, operations);
     mend_all(rt, n, size, boot, update, swap)?;
@@ -347,7 +352,13 @@ fn installed(version: u8, size: u32, status: u8) -> [u8; 768] {
     partition
 }
 
-fn asked(rt: &impl Print, n: usize, size: usize, boot: [u8; 768], update: [u8; 768]) -> io::Result<()> {
+fn asked(
+    rt: &impl Print,
+    n: usize,
+    size: usize,
+    boot: [u8; 768],
+    update: [u8; 768],
+) -> io::Result<()> {
     let mut u = update;
     let swap = [0x5Au8; 256];
     mend_all(rt, n, size, &boot, &mut u, &swap)
@@ -356,7 +367,13 @@ fn asked(rt: &impl Print, n: usize, size: usize, boot: [u8; 768], update: [u8; 7
 fn outside(rt: &impl Print, n: usize, size: usize) -> io::Result<()> {
     print_number(rt, "768 bytes, n ", n as u64)?;
     print_number(rt, " S ", size as u64)?;
-    asked(rt, n, size, installed(7, 256, 0x70), installed(8, 256, 0xFF))
+    asked(
+        rt,
+        n,
+        size,
+        installed(7, 256, 0x70),
+        installed(8, 256, 0xFF),
+    )
 }
 
 fn outsides(rt: &impl Print) -> io::Result<()> {
@@ -370,7 +387,13 @@ fn outsides(rt: &impl Print) -> io::Result<()> {
 fn statuses(rt: &impl Print, boot: u8, update: u8) -> io::Result<()> {
     print_hex(rt, "BOOT status ", boot, 2)?;
     print_hex(rt, " UPDATE status ", update, 2)?;
-    asked(rt, 3, 256, installed(7, 256, boot), installed(8, 256, update))
+    asked(
+        rt,
+        3,
+        256,
+        installed(7, 256, boot),
+        installed(8, 256, update),
+    )
 }
 
 // NEW, UPDATING, TESTING and SUCCESS.
@@ -388,12 +411,19 @@ fn pairs(rt: &impl Print) -> io::Result<()> {
     pairs_with(rt, 0x00)
 }
 
-fn images(rt: &impl Print, boot: u8, boot_size: u32, update: u8, update_size: u32) -> io::Result<()> {
+fn images(
+    rt: &impl Print,
+    boot: u8,
+    boot_size: u32,
+    update: u8,
+    update_size: u32,
+) -> io::Result<()> {
     print_number(rt, "BOOT version ", boot as u64)?;
     print_number(rt, " size ", boot_size as u64)?;
     print_number(rt, " UPDATE version ", update as u64)?;
     print_number(rt, " size ", update_size as u64)?;
-    asked(rt, 
+    asked(
+        rt,
         3,
         256,
         installed(boot, boot_size, 0x00),
@@ -422,7 +452,8 @@ fn with_0(partition: [u8; 768], at: usize) -> [u8; 768] {
 fn damaged(rt: &impl Print, boot: usize, update: usize) -> io::Result<()> {
     print_number(rt, "a byte 00 in BOOT at ", boot as u64)?;
     print_number(rt, " in UPDATE at ", update as u64)?;
-    asked(rt, 
+    asked(
+        rt,
         3,
         256,
         with_0(installed(7, 256, 0x00), boot),

@@ -100,13 +100,22 @@ fn print_reason(rt: &impl Print, r: TurnDownReason) -> io::Result<()> {
     Ok(())
 }
 
-fn print_answer(rt: &impl Print, outcome: Outcome, count: u64, reason: TurnDownReason) -> io::Result<()> {
+fn print_answer(
+    rt: &impl Print,
+    outcome: Outcome,
+    count: u64,
+    reason: TurnDownReason,
+) -> io::Result<()> {
     print_outcome(rt, outcome)?;
     print_number(rt, " with ", count)?;
     print_reason(rt, reason)
 }
 
-fn print_trailers(rt: &impl Print, boot: [u8; PARTITION], update: [u8; PARTITION]) -> io::Result<()> {
+fn print_trailers(
+    rt: &impl Print,
+    boot: [u8; PARTITION],
+    update: [u8; PARTITION],
+) -> io::Result<()> {
     print_byte(rt, "; boot ", boot[767])?;
     print_byte(rt, " update ", update[767])?;
     print_byte(rt, " flags ", update[766])
@@ -121,7 +130,12 @@ fn print_four(rt: &impl Print, digest: [u8; 32]) -> io::Result<()> {
 }
 
 // The status bytes, the flag byte, and the first bytes of the digest of the whole flash.
-fn print_flash(rt: &impl Print, boot: [u8; PARTITION], update: [u8; PARTITION], swap: [u8; SIZE]) -> io::Result<()> {
+fn print_flash(
+    rt: &impl Print,
+    boot: [u8; PARTITION],
+    update: [u8; PARTITION],
+    swap: [u8; SIZE],
+) -> io::Result<()> {
     print_trailers(rt, boot, update)?;
     let all = Hasher::new()
         .absorb(&boot)
@@ -134,7 +148,13 @@ fn print_flash(rt: &impl Print, boot: [u8; PARTITION], update: [u8; PARTITION], 
 // ---- the runs
 
 // A power-up, and what it answers.
-fn power(rt: &impl Print, boot: &mut [u8], update: &mut [u8], swap: &mut [u8], budget: u64) -> io::Result<()> {
+fn power(
+    rt: &impl Print,
+    boot: &mut [u8],
+    update: &mut [u8],
+    swap: &mut [u8],
+    budget: u64,
+) -> io::Result<()> {
     print_number(rt, "", budget)?;
     print(rt, " ")?;
     let x = power_up::power_up(SECTORS, SIZE, boot, update, swap, budget);
@@ -144,7 +164,14 @@ fn power(rt: &impl Print, boot: &mut [u8], update: &mut [u8], swap: &mut [u8], b
 }
 
 // Two power-ups, one after the other.
-fn two(rt: &impl Print, boot: [u8; PARTITION], update: [u8; PARTITION], swap: [u8; SIZE], first: u64, second: u64) -> io::Result<()> {
+fn two(
+    rt: &impl Print,
+    boot: [u8; PARTITION],
+    update: [u8; PARTITION],
+    swap: [u8; SIZE],
+    first: u64,
+    second: u64,
+) -> io::Result<()> {
     let mut b = boot;
     let mut u = update;
     let mut s = swap;
@@ -155,7 +182,13 @@ fn two(rt: &impl Print, boot: [u8; PARTITION], update: [u8; PARTITION], swap: [u
 }
 
 // One power-up.
-fn one(rt: &impl Print, boot: [u8; PARTITION], update: [u8; PARTITION], swap: [u8; SIZE], budget: u64) -> io::Result<()> {
+fn one(
+    rt: &impl Print,
+    boot: [u8; PARTITION],
+    update: [u8; PARTITION],
+    swap: [u8; SIZE],
+    budget: u64,
+) -> io::Result<()> {
     let mut b = boot;
     let mut u = update;
     let mut s = swap;
@@ -163,7 +196,13 @@ fn one(rt: &impl Print, boot: [u8; PARTITION], update: [u8; PARTITION], swap: [u
     print_flash(rt, b, u, s)
 }
 
-fn pairs_from(rt: &impl Print, boot: [u8; PARTITION], update: [u8; PARTITION], swap: [u8; SIZE], first: u64) -> io::Result<()> {
+fn pairs_from(
+    rt: &impl Print,
+    boot: [u8; PARTITION],
+    update: [u8; PARTITION],
+    swap: [u8; SIZE],
+    first: u64,
+) -> io::Result<()> {
     for second in 0..26 {
         two(rt, boot, update, swap, first, second)?;
     }
@@ -171,7 +210,12 @@ fn pairs_from(rt: &impl Print, boot: [u8; PARTITION], update: [u8; PARTITION], s
 }
 
 // Every budget, then every pair of budgets.
-fn budgets(rt: &impl Print, boot: [u8; PARTITION], update: [u8; PARTITION], swap: [u8; SIZE]) -> io::Result<()> {
+fn budgets(
+    rt: &impl Print,
+    boot: [u8; PARTITION],
+    update: [u8; PARTITION],
+    swap: [u8; SIZE],
+) -> io::Result<()> {
     for budget in 0..26 {
         one(rt, boot, update, swap, budget)?;
     }
@@ -190,7 +234,12 @@ fn with_byte(partition: [u8; PARTITION], at: usize, value: u8) -> [u8; PARTITION
 }
 
 // The same three budgets for each start that is turned down, refused or plain.
-fn few(rt: &impl Print, label: &str, boot: [u8; PARTITION], update: [u8; PARTITION]) -> io::Result<()> {
+fn few(
+    rt: &impl Print,
+    label: &str,
+    boot: [u8; PARTITION],
+    update: [u8; PARTITION],
+) -> io::Result<()> {
     print(rt, label)?;
     print(rt, "\n")?;
     let swap = [0x5Au8; SIZE];
@@ -200,8 +249,16 @@ fn few(rt: &impl Print, label: &str, boot: [u8; PARTITION], update: [u8; PARTITI
 }
 
 // A start by its versions and statuses.
-fn start(rt: &impl Print, label: &str, boot: u8, boot_status: u8, update: u8, update_status: u8) -> io::Result<()> {
-    few(rt, 
+fn start(
+    rt: &impl Print,
+    label: &str,
+    boot: u8,
+    boot_status: u8,
+    update: u8,
+    update_status: u8,
+) -> io::Result<()> {
+    few(
+        rt,
         label,
         partition_of(boot, boot_status),
         partition_of(update, update_status),
@@ -209,8 +266,16 @@ fn start(rt: &impl Print, label: &str, boot: u8, boot_status: u8, update: u8, up
 }
 
 // An update from version 7 to 8 with a byte of BOOT and one of UPDATE set. The bytes at 767 are the statuses.
-fn update(rt: &impl Print, label: &str, boot_at: usize, boot_byte: u8, update_at: usize, update_byte: u8) -> io::Result<()> {
-    few(rt, 
+fn update(
+    rt: &impl Print,
+    label: &str,
+    boot_at: usize,
+    boot_byte: u8,
+    update_at: usize,
+    update_byte: u8,
+) -> io::Result<()> {
+    few(
+        rt,
         label,
         with_byte(partition_of(7, 0x00), boot_at, boot_byte),
         with_byte(partition_of(8, 0x70), update_at, update_byte),
@@ -218,8 +283,16 @@ fn update(rt: &impl Print, label: &str, boot_at: usize, boot_byte: u8, update_at
 }
 
 // The same for a fallback from version 7 to 6.
-fn fallback(rt: &impl Print, label: &str, boot_at: usize, boot_byte: u8, update_at: usize, update_byte: u8) -> io::Result<()> {
-    few(rt, 
+fn fallback(
+    rt: &impl Print,
+    label: &str,
+    boot_at: usize,
+    boot_byte: u8,
+    update_at: usize,
+    update_byte: u8,
+) -> io::Result<()> {
+    few(
+        rt,
         label,
         with_byte(partition_of(7, 0x10), boot_at, boot_byte),
         with_byte(partition_of(6, 0xFF), update_at, update_byte),
@@ -255,7 +328,14 @@ fn flags(rt: &impl Print) -> io::Result<()> {
 fn closing(rt: &impl Print) -> io::Result<()> {
     start(rt, "TESTING and UPDATING, flags F", 7, 0x10, 8, 0x70)?;
     update(rt, "TESTING and UPDATING, flags 0", 767, 0x10, 766, 0x00)?;
-    update(rt, "TESTING and UPDATING, flag byte F7", 767, 0x10, 766, 0xF7)
+    update(
+        rt,
+        "TESTING and UPDATING, flag byte F7",
+        767,
+        0x10,
+        766,
+        0xF7,
+    )
 }
 
 fn plain(rt: &impl Print) -> io::Result<()> {
@@ -281,7 +361,10 @@ fn arm(rt: &impl Print, boot: [u8; PARTITION], update: [u8; PARTITION]) -> io::R
     let mut u = update;
     let mut s = [0x5Au8; SIZE];
     print(rt, "arm ")?;
-    print_command(rt, exchange_commands::arm(SECTORS, SIZE, &mut b, &mut u, &mut s))?;
+    print_command(
+        rt,
+        exchange_commands::arm(SECTORS, SIZE, &mut b, &mut u, &mut s),
+    )?;
     print_flash(rt, b, u, s)
 }
 
@@ -290,12 +373,21 @@ fn confirm(rt: &impl Print, boot: [u8; PARTITION], update: [u8; PARTITION]) -> i
     let mut u = update;
     let mut s = [0x5Au8; SIZE];
     print(rt, "confirm ")?;
-    print_command(rt, exchange_commands::confirm(SECTORS, SIZE, &mut b, &mut u, &mut s))?;
+    print_command(
+        rt,
+        exchange_commands::confirm(SECTORS, SIZE, &mut b, &mut u, &mut s),
+    )?;
     print_flash(rt, b, u, s)
 }
 
 // Arm, and confirm, from the same start.
-fn both(rt: &impl Print, label: &str, boot_status: u8, update_status: u8, flags: u8) -> io::Result<()> {
+fn both(
+    rt: &impl Print,
+    label: &str,
+    boot_status: u8,
+    update_status: u8,
+    flags: u8,
+) -> io::Result<()> {
     let boot = partition_of(7, boot_status);
     let update = with_byte(partition_of(8, update_status), 766, flags);
     print(rt, label)?;
