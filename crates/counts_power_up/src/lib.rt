@@ -2,7 +2,7 @@
 #![tactic(auto)]
 
 ghost use Rattle.std.specs.Prelude.{◌≡◌, length};
-ghost use Rattle.flash.specs.Buffers.{lent, Shaped};
+ghost use Rattle.flash.specs.Buffers.{flash, Shaped};
 ghost use Rattle.flash_flags.specs.Front.{WellFormed};
 ghost use Rattle.exchange.specs.Order.{run, operations};
 ghost use Rattle.exchange.specs.Decision.{decide_within};
@@ -85,11 +85,11 @@ fn do_job(
     budget: u64,
     row: &mut [u32],
 ) -> PowerUpAnswer
-    requires { (Shaped g (lent boot update swap)) × (WellFormed g update.old) × (length row.old ≡ row_length g)
-        × (Within32 (raised g (operations job g budget 0 (lent boot update swap)) row.old)) }
-    ensures { (answered result (lent boot.exit update.exit swap.exit)
-        ≡ worked check_of g job (reason_of reason) (run job g budget 0 (lent boot.entry update.entry swap.entry)))
-        × (row.new ≡ raised g (operations job g budget 0 (lent boot.entry update.entry swap.entry)) row.old) }
+    requires { (Shaped g (flash boot.old update.old swap.old)) × (WellFormed g update.old) × (length row.old ≡ row_length g)
+        × (Within32 (raised g (operations job g budget 0 (flash boot.old update.old swap.old)) row.old)) }
+    ensures { (answered result (flash boot.new update.new swap.new)
+        ≡ worked check_of g job (reason_of reason) (run job g budget 0 (flash boot.old update.old swap.old)))
+        × (row.new ≡ raised g (operations job g budget 0 (flash boot.old update.old swap.old)) row.old) }
 {
     let end = counts_steps::repeat_counted(g, job, boot, update, swap, budget, row);
     let left = end.left;
@@ -110,11 +110,11 @@ fn carry_out(
     budget: u64,
     row: &mut [u32],
 ) -> PowerUpAnswer
-    requires { (Shaped g (lent boot update swap)) × (plan_of plan ≡ decide_within check_of g boot.old update.old)
+    requires { (Shaped g (flash boot.old update.old swap.old)) × (plan_of plan ≡ decide_within check_of g boot.old update.old)
         × (length row.old ≡ row_length g) × (RoomForM g row.old) }
-    ensures { (answered result (lent boot.exit update.exit swap.exit)
-        ≡ carry_out check_of g (lent boot.entry update.entry swap.entry) budget (plan_of plan))
-        × (row.new ≡ raised g (operations_in g (lent boot.entry update.entry swap.entry) budget (plan_of plan)) row.old) }
+    ensures { (answered result (flash boot.new update.new swap.new)
+        ≡ carry_out check_of g (flash boot.old update.old swap.old) budget (plan_of plan))
+        × (row.new ≡ raised g (operations_in g (flash boot.old update.old swap.old) budget (plan_of plan)) row.old) }
 {
     match plan {
         Plan::Refuse(refusal) => power_up::idle(Outcome::Refused(refusal)),
@@ -134,8 +134,8 @@ pub fn power_up_counted(
     row: &mut [u32],
     total: u64,
 ) -> CountedAnswer
-    ensures { CountedDelivers sectors size (lent boot.entry update.entry swap.entry) budget row.old total
-        result (lent boot.exit update.exit swap.exit) row.new }
+    ensures { CountedDelivers sectors size (flash boot.old update.old swap.old) budget row.old total
+        result (flash boot.new update.new swap.new) row.new }
 {
     match flash::check_flash(sectors, size, boot, update, swap) {
         GeometryAnswer::Fits(g) => match counts_row::check_row(g, row, total) {

@@ -1,5 +1,5 @@
 -- The window holds the standard's words.
-use Rattle.std.proofs.Common.{◌≡◌, ℕ, zero, suc, ◌+◌, ◌-◌, ◌%◌, ◌<◌, ◌≤◌, Bool, true, false, cond, ltb, List, [], ◌∷◌, ◌++◌, length, get_or, take, set, sym, refl, ap, ◌∙◌, subst, ap₂, arith, length-append, length-set, take_all, get_or-set_other, get_or-take, get_or-set_same, ltb-false, ltb-true, le-ltb}
+use Rattle.std.proofs.Common.{◌≡◌, ℕ, zero, suc, ◌+◌, ◌-◌, ◌%◌, ◌<◌, ◌≤◌, Bool, true, false, cond, ltb, List, [], ◌∷◌, ◌++◌, length, take, set, sym, refl, ap, ◌∙◌, subst, ap₂, arith, length-append, length-set, take_all, get_or-set_other, get_or-take, get_or-set_same, ltb-false, ltb-true, le-ltb}
 use lib.ListN.{get_or-append}
 use lib.Seq.{get_or-append_seam, take-append-le}
 use Rattle.digest_fips180.specs.Sha256.{◌!◌, ◌⊞◌, σ₀, σ₁, first, words, K, round, rounds, next_word, schedule}

@@ -1,3 +1,2 @@
 // The standard's own rules hold of its definitions, and its examples come out: theorems only.
 #![tactic(auto)]
-

@@ -1,12 +1,11 @@
 -- The pending block, as the code makes it.
-use Rattle.std.proofs.Common.{◌≡◌, ℕ, ◌+◌, ◌-◌, ◌*◌, ◌/◌, ◌%◌, ◌^◌, ◌<◌, ◌≤◌, List, [], ◌∷◌, ◌++◌, length, take, drop, replicate, sym, refl, ap, ◌∙◌, ap₂, append_assoc, append-nil, arith, length-append, length-drop, take-append-drop, drop_of_length-le, take_all, take_at}
-use lib.ListN.{length-replicate, replicate-append-replicate}
+use Rattle.std.proofs.Common.{◌≡◌, ℕ, ◌+◌, ◌-◌, ◌*◌, ◌/◌, ◌%◌, ◌^◌, ◌<◌, ◌≤◌, List, [], ◌++◌, length, take, drop, replicate, sym, refl, ap, ◌∙◌, ap₂, append-nil, arith, length-append, length-drop, take-append-drop, drop_of_length-le, take_all}
 use lib.Seq.{paste}
 use Rattle.digest_sha256.specs.declared.Hasher.{Hasher}
-use Rattle.digest_fips180.specs.Sha256.{block, words, zeros, big_endian, padding, compress, hash}
+use Rattle.digest_fips180.specs.Sha256.{block, words, compress, hash}
 use Rattle.digest_sha256.specs.Parts.{settle, waiting, absorb_of, digest_after}
 use Rattle.digest_bytes.proofs.Blocks.{put_first}
-use Rattle.digest_sha256.proofs.Concatenation.{same, length_waiting, concatenation, field_wrap, after_blocks}
+use Rattle.digest_sha256.proofs.Concatenation.{same, length_waiting, concatenation, after_blocks}
 
 -- a slice's elements from n on
 pub from : (p : List ℕ) (n : ℕ) → take (length p - n) (drop n p) ≡ drop n p

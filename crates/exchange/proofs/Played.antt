@@ -17,7 +17,7 @@ use Rattle.exchange.specs.Order.{next_operation, Run, run}
 use Rattle.exchange.specs.Decision.{Check, refuse, decide, Good}
 use Rattle.exchange.specs.PowerUp.{refusal, PowerUp, outcome_by, worked, idle, carry_out, power_up, next_in, next_after}
 use Rattle.exchange.specs.LostPower.{Torn, tear_next}
-use Rattle.exchange.specs.Demand.{Exchange, update, job_of, ReadsFirmware, Finished, untorn, lost, Event, Left, left_untorn, left, flash_left, EndsAsAllowed, FlagMovedOn, IsRefusal, MovesOn, CutOrDone, AnswersRight, Underway, left_lost}
+use Rattle.exchange.specs.Demand.{Exchange, job_of, ReadsFirmware, Finished, untorn, lost, Event, Left, left_untorn, left, flash_left, EndsAsAllowed, FlagMovedOn, IsRefusal, MovesOn, CutOrDone, AnswersRight, Underway, left_lost}
 use Rattle.flash.proofs.Checked.{shaped_of, shaped_fits, same_geometry}
 use Rattle.flash_flags.proofs.Moves.{leg_below}
 use Rattle.exchange.proofs.Accepted.{check_same}

@@ -26,7 +26,7 @@ use Rattle.exchange.proofs.Runs.{run_some, power_up_works}
 use Rattle.exchange.proofs.Stage.{closing, closing_left, Stage, in_leg_lem, at_last, at_end, next_leg}
 use Rattle.exchange.proofs.Walked.{closing_some, Walked, walked}
 use Rattle.exchange.proofs.Shows.{end_of, unfinished}
-use Rattle.exchange.proofs.Decided.{Decides, decided}
+use Rattle.exchange.proofs.Decided.{Decides}
 use Rattle.exchange.proofs.Played.{OldRuns, old_runs, works, next_in_lem, Played, played}
 use Rattle.exchange.proofs.Whole.{closing_most, Again, again, Begins, begins, starts_ongoing, StageOf, stage_of}
 

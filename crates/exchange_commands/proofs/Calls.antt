@@ -7,7 +7,7 @@ use Rattle.flash.specs.declared.Geometry.{Geometry}
 use Rattle.flash.specs.Sizes.{geometry, geometry_where}
 use Rattle.flash.specs.Buffers.{Flash, fits, flash_of}
 use Rattle.flash.proofs.Checked.{shaped_of}
-use Rattle.exchange.specs.Commands.{Command, command, arm_command, confirm_command}
+use Rattle.exchange.specs.Commands.{command, arm_command, confirm_command}
 use Rattle.exchange_commands.specs.declared.CommandKind.{CommandKind}
 use Rattle.exchange_commands.specs.declared.CommandKind.TheVariants.{Arm, Confirm}
 use Rattle.exchange_commands.specs.declared.Permit.{Permit}

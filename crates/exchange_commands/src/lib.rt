@@ -5,7 +5,7 @@ ghost use Rattle.std.specs.Prelude.{◌≡◌};
 ghost use Rattle.numbers.specs.Answer.{gives};
 ghost use Rattle.flash.specs.Sizes.{geometry, geometry_answer};
 ghost use Rattle.flash.specs.Sectors.{Partition};
-ghost use Rattle.flash.specs.Buffers.{lent, Shaped};
+ghost use Rattle.flash.specs.Buffers.{flash, lent, Shaped};
 ghost use Rattle.flash_flags.specs.SectorFlags.{flags_at};
 ghost use Rattle.exchange.specs.Commands.{command, may_arm, confirm_flags, may_confirm, arm_command, confirm_command};
 ghost use Rattle.exchange_commands.specs.Numbers.{commanded};
@@ -122,9 +122,9 @@ fn do_operations(
     update: &mut [u8],
     swap: &mut [u8],
 ) -> CommandAnswer
-    requires { Shaped g (lent boot update swap) }
-    ensures { commanded result (lent boot.exit update.exit swap.exit)
-        ≡ command g (command_operations kind) (gives tt) (lent boot.entry update.entry swap.entry) }
+    requires { Shaped g (flash boot.old update.old swap.old) }
+    ensures { commanded result (flash boot.new update.new swap.new)
+        ≡ command g (command_operations kind) (gives tt) (flash boot.old update.old swap.old) }
 {
     match kind {
         CommandKind::Arm => {
@@ -159,9 +159,9 @@ fn obey(
     update: &mut [u8],
     swap: &mut [u8],
 ) -> CommandAnswer
-    requires { ShapedWhere (geometry_answer fit) (lent boot update swap) }
-    ensures { commanded result (lent boot.exit update.exit swap.exit)
-        ≡ command_after kind (geometry_answer fit) (lent boot.entry update.entry swap.entry) }
+    requires { ShapedWhere (geometry_answer fit) (flash boot.old update.old swap.old) }
+    ensures { commanded result (flash boot.new update.new swap.new)
+        ≡ command_after kind (geometry_answer fit) (flash boot.old update.old swap.old) }
 {
     match fit {
         GeometryAnswer::Fits(g) => match decide(kind, g, boot, update) {
@@ -180,8 +180,8 @@ pub fn arm(
     update: &mut [u8],
     swap: &mut [u8],
 ) -> CommandAnswer
-    ensures { commanded result (lent boot.exit update.exit swap.exit)
-        ≡ arm_command (geometry sectors size) (lent boot.entry update.entry swap.entry) }
+    ensures { commanded result (flash boot.new update.new swap.new)
+        ≡ arm_command (geometry sectors size) (flash boot.old update.old swap.old) }
 {
     let fit = flash::check_flash(sectors, size, boot, update, swap);
     obey(CommandKind::Arm, fit, boot, update, swap)
@@ -195,8 +195,8 @@ pub fn confirm(
     update: &mut [u8],
     swap: &mut [u8],
 ) -> CommandAnswer
-    ensures { commanded result (lent boot.exit update.exit swap.exit)
-        ≡ confirm_command (geometry sectors size) (lent boot.entry update.entry swap.entry) }
+    ensures { commanded result (flash boot.new update.new swap.new)
+        ≡ confirm_command (geometry sectors size) (flash boot.old update.old swap.old) }
 {
     let fit = flash::check_flash(sectors, size, boot, update, swap);
     obey(CommandKind::Confirm, fit, boot, update, swap)

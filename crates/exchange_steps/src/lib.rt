@@ -4,7 +4,7 @@
 ghost use Rattle.std.specs.Prelude.{◌≡◌, ◌<◌, ◌≤◌};
 ghost use Rattle.flash.specs.Sizes.{firmware};
 ghost use Rattle.flash.specs.Sectors.{erased};
-ghost use Rattle.flash.specs.Buffers.{lent, Shaped};
+ghost use Rattle.flash.specs.Buffers.{flash, Shaped};
 ghost use Rattle.flash_flags.specs.Front.{WellFormed};
 ghost use Rattle.exchange.specs.Operations.{put, perform};
 ghost use Rattle.exchange.specs.Order.{run};
@@ -25,9 +25,9 @@ fn erase_in(
     update: &mut [u8],
     swap: &mut [u8],
 )
-    requires { (Shaped g (lent boot update swap)) × (i.0 < g.sectors) }
-    ensures { lent boot.exit update.exit swap.exit
-        ≡ put g area i.0 (erased g.size) (lent boot.entry update.entry swap.entry) }
+    requires { (Shaped g (flash boot.old update.old swap.old)) × (i.0 < g.sectors) }
+    ensures { flash boot.new update.new swap.new
+        ≡ put g area i.0 (erased g.size) (flash boot.old update.old swap.old) }
 {
     match area {
         Area::Boot => flash_sectors::erase_sector(g, boot, i),
@@ -45,9 +45,9 @@ fn copy_for(
     update: &mut [u8],
     swap: &mut [u8],
 )
-    requires { (Shaped g (lent boot update swap)) × (i.0 < g.sectors) }
-    ensures { lent boot.exit update.exit swap.exit
-        ≡ perform g (Operation.Copy leg i) (lent boot.entry update.entry swap.entry) }
+    requires { (Shaped g (flash boot.old update.old swap.old)) × (i.0 < g.sectors) }
+    ensures { flash boot.new update.new swap.new
+        ≡ perform g (Operation.Copy leg i) (flash boot.old update.old swap.old) }
 {
     match leg {
         Leg::UpdateToSwap => flash_sectors::copy_to_swap(g, swap, update, i),
@@ -58,8 +58,8 @@ fn copy_for(
 
 // One operation.
 pub fn do_operation(g: Geometry, op: Operation, boot: &mut [u8], update: &mut [u8], swap: &mut [u8])
-    requires { (Shaped g (lent boot update swap)) × (SectorWithin g op) }
-    ensures { lent boot.exit update.exit swap.exit ≡ perform g op (lent boot.entry update.entry swap.entry) }
+    requires { (Shaped g (flash boot.old update.old swap.old)) × (SectorWithin g op) }
+    ensures { flash boot.new update.new swap.new ≡ perform g op (flash boot.old update.old swap.old) }
 {
     match op {
         Operation::Erase(area, i) => erase_in(g, area, i, boot, update, swap),
@@ -92,9 +92,9 @@ pub fn do_next(
     update: &mut [u8],
     swap: &mut [u8],
 ) -> StepAnswer
-    requires { (Shaped g (lent boot update swap)) × (at.front.0 ≤ firmware g) × (0 < at.left) }
-    ensures { Steps job g at (lent boot.entry update.entry swap.entry)
-        result (lent boot.exit update.exit swap.exit) }
+    requires { (Shaped g (flash boot.old update.old swap.old)) × (at.front.0 ≤ firmware g) × (0 < at.left) }
+    ensures { Steps job g at (flash boot.old update.old swap.old)
+        result (flash boot.new update.new swap.new) }
 {
     let next = exchange_front::find_next(g, job, at, boot, update);
     match next {
@@ -118,9 +118,9 @@ pub fn repeat_step(
     swap: &mut [u8],
     budget: u64,
 ) -> Progress
-    requires { (Shaped g (lent boot update swap)) × (WellFormed g update.old) }
-    ensures { (ran budget result (lent boot.exit update.exit swap.exit)
-        ≡ run job g budget 0 (lent boot.entry update.entry swap.entry))
+    requires { (Shaped g (flash boot.old update.old swap.old)) × (WellFormed g update.old) }
+    ensures { (ran budget result (flash boot.new update.new swap.new)
+        ≡ run job g budget 0 (flash boot.old update.old swap.old))
         × (Current g update.new result) × (result.left ≤ budget) }
 {
     let mut at = exchange_front::begin(g, update, budget);

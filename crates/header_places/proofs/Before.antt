@@ -18,7 +18,7 @@ use Rattle.header_tags.proofs.Standing.{found_tags_stand, found_by_same_bytes, p
 use Rattle.header_places.specs.Table.{TagTable}
 use Rattle.header_places.specs.Judging.{row_of, judge, places_in}
 use Rattle.header_places.specs.RuledOut.{InRow}
-use Rattle.header_places.specs.Before.{RowStands, PlacesAreTags, TagsHavePlaces, RequiredAreSeen, TagEnds, TagsBefore}
+use Rattle.header_places.specs.Before.{PlacesAreTags, TagsHavePlaces, RequiredAreSeen, TagEnds, TagsBefore}
 use Rattle.header_places.proofs.RuledOut.{row_of_lem, row_type, row_all, Verdict, is_skipped, is_critical, has_length, is_repeated, is_taken, verdict}
 use Rattle.header_places.proofs.Judged.{Goes, begun}
 

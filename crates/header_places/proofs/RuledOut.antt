@@ -16,7 +16,7 @@ use Rattle.header_tags.specs.Padding.{WalkNumber, does_not_fit, no_end}
 use Rattle.header_tags.proofs.Padding.{walk_gives_its_numbers, number_same, place_same, gives_refused}
 use Rattle.header_places.specs.Table.{TagTable}
 use Rattle.header_places.specs.Judging.{row_of, judge, places_in}
-use Rattle.header_places.specs.RuledOut.{InRow, Known, Unknown, TagJudged, TagsAreJudged, EndJudged, EndIsJudged, BreakIsJudged, TagNumber, does_not_fit as notFitting, wrong_length as of_length, repeated as again, not_understood, no_end as endless, missing, TagsGiveTheirNumbers}
+use Rattle.header_places.specs.RuledOut.{InRow, Known, Unknown, TagsAreJudged, EndIsJudged, BreakIsJudged, TagNumber, does_not_fit as notFitting, wrong_length as of_length, repeated as again, not_understood, no_end as endless, missing, TagsGiveTheirNumbers}
 
 -- ---- the row of a type
 

@@ -1,6 +1,6 @@
 -- Parts of a list of bytes, and numbers in them. Assumes nothing.
-use mathlib.Core.Path.{◌≡◌, refl, sym, ap, ◌∙◌}
-use Prim.Native.Nat.{ℕ, zero, suc, ◌+◌, ◌-◌, ◌*◌, ◌^◌, ◌≤◌, ◌<◌}
+use mathlib.Core.Path.{◌≡◌, refl, ap, ◌∙◌}
+use Prim.Native.Nat.{ℕ, suc, ◌+◌, ◌-◌, ◌*◌, ◌^◌, ◌≤◌, ◌<◌}
 use mathlib.Core.List.{List, [], ◌∷◌, ◌++◌, append-nil}
 use native.Mathlib.Omega.{arith}
 use native.Mathlib.Nat.{pow-suc}
@@ -8,7 +8,7 @@ use native.Mathlib.Decide.{dec_lt}
 use lib.Dec.{lit<}
 use native.Mathlib.Numerals.{add-one}
 use lib.ListN.{length, get_or, take, drop, length-take, length-drop, replicate, length-replicate, drop_of_length-le, get_or-eq_default}
-use lib.Seq.{take-length, drop-cons, length-take-le, take_all, take-add, drop-drop, get_or-take, get_or-drop}
+use lib.Seq.{take-length, drop-cons, length-take-le, take-add, drop-drop, get_or-take, get_or-drop}
 use Rattle.header_tags.specs.Bytes.{AllBytes, number}
 use Rattle.header_reader.specs.Reading.{bytes_at}
 

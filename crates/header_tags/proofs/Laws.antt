@@ -1,5 +1,5 @@
 -- What the walk finds in each case, from facts on the bytes. Assumes nothing.
-use mathlib.Core.Path.{◌≡◌, refl, sym, ap, subst, ◌∙◌}
+use mathlib.Core.Path.{◌≡◌, refl, ap, subst, ◌∙◌}
 use Prim.Native.Nat.{ℕ, zero, suc, ◌+◌, ◌-◌, ◌<◌, ◌≤◌}
 use mathlib.Core.List.{List}
 use mathlib.Core.Bool.{Bool, true, false, cond}
@@ -8,7 +8,7 @@ use native.Mathlib.Omega.{arith}
 use lib.ListN.{length, get_or, take, length-take}
 use borrow.Author.Tests.{ltb-false, eqb-false, lt-ltb, le-ltb, eq-eqb, ne_eqb}
 use Rattle.numbers.specs.Answer.{Answer, gives, refused}
-use Rattle.header_tags.specs.Walk.{type_at, length_at, Item, tag, end, item_at, item_from, next_item, walk_at, Tags, more, on_item, tags_from, tags_at}
+use Rattle.header_tags.specs.Walk.{type_at, length_at, Item, tag, end, item_at, item_from, next_item, walk_at, more, on_item, tags_from, tags_at}
 use Rattle.header_tags.specs.Standing.{TagStands}
 
 module _ (h : List ℕ) (p : ℕ) where

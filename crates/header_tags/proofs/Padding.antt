@@ -1,15 +1,14 @@
 -- Padding is passed, and which numbers break the walk. Assumes nothing.
-use mathlib.Core.Path.{◌≡◌, refl, sym, ap, ◌∙◌}
-use Prim.Native.Nat.{ℕ, zero, suc, ◌+◌, ◌-◌, ◌<◌, ◌≤◌}
+use mathlib.Core.Path.{◌≡◌, sym, ap, ◌∙◌}
+use Prim.Native.Nat.{ℕ, zero, suc, ◌+◌, ◌-◌}
 use mathlib.Core.List.{List}
 use mathlib.Core.Bool.{Bool, true, false, cond}
 use lib.Dec.{ltb, eqb}
 use native.Mathlib.Omega.{arith}
 use lib.ListN.{length, get_or}
-use borrow.Author.Tests.{eq-eqb}
 use Rattle.numbers.specs.Answer.{Answer, gives, refused}
-use Rattle.header_tags.specs.Walk.{type_at, length_at, Item, tag, end, item_at, item_from, next_item, Tags, on_item, tags_at}
-use Rattle.header_tags.specs.Padding.{Passes, PaddingIsPassed, WalkNumber, does_not_fit, no_end, WalkGivesItsNumbers}
+use Rattle.header_tags.specs.Walk.{type_at, length_at, Item, tag, end, item_at, item_from, next_item, on_item, tags_at}
+use Rattle.header_tags.specs.Padding.{PaddingIsPassed, WalkNumber, does_not_fit, no_end, WalkGivesItsNumbers}
 use Rattle.header_tags.proofs.Laws.{next_padding, tags_step}
 
 pub padding_is_passed : PaddingIsPassed

@@ -10,7 +10,7 @@ use lib.Seq.{get_or-take, get_or-drop, ext_get_or}
 use borrow.Author.Tests.{eqb-true, eqb-false}
 use native.Mathlib.Decide.{dec_lt}
 use Rattle.numbers.specs.Answer.{Answer, gives, refused}
-use Rattle.header_tags.specs.Walk.{length_at, type_at, Item, tag, end, item_at, item_from, next_item, Tags, ended, broken, more, on_item, tags_at}
+use Rattle.header_tags.specs.Walk.{length_at, type_at, Item, tag, end, item_at, item_from, next_item, Tags, more, on_item, tags_at}
 use Rattle.header_tags.specs.Standing.{TagStands, FoundTagsStand, FindsWhatStands, FoundBySameBytes}
 use Rattle.header_tags.proofs.Laws.{one_left, the_end, no_length, no_value, found, next_none, next_item_lem, next_padding, refused_gives, item_stands, from_stands, tags_step}
 

@@ -1,7 +1,7 @@
 -- Document 01, "The header": what holds of the walk, whatever the bytes are. Each statement is proved in proofs/.
 use Rattle.std.specs.Prelude.{◌≡◌, ℕ, ◌+◌, ◌<◌, List, length, get_or}
 use Rattle.numbers.specs.Answer.{refused}
-use Rattle.header_tags.specs.Walk.{next_item, broken, tags_at}
+use Rattle.header_tags.specs.Walk.{next_item, tags_at}
 
 -- Padding may stand anywhere, before a tag, between two, and as much as there is room for: from a padding byte on the walk
 -- finds what it finds from the next byte on, the next item and all that follow.

@@ -1,5 +1,3 @@
--- The claims of specs/Claims.antt, and two laws that the walks by hand share.
+-- The claims of specs/Claims.antt.
 pub mod Answers
 pub mod Calls
-pub mod Called
-pub mod Loan

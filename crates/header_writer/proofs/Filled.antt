@@ -5,13 +5,13 @@ use Prim.Native.Nat.{ℕ, ◌+◌, ◌-◌, ◌≤◌, ◌<◌}
 use mathlib.Core.List.{List, [], ◌∷◌, ◌++◌, append_assoc}
 use mathlib.Core.Bool.{Bool, true, false}
 use native.Mathlib.Omega.{arith}
-use lib.ListN.{length, get_or, drop, replicate, length-append, length-replicate, get_or-replicate, get_or-append}
+use lib.ListN.{length, get_or, drop, replicate, length-append, get_or-replicate, get_or-append}
 use lib.Seq.{get_or-append-add}
 use Rattle.header_tags.specs.Bytes.{field_bytes}
 use Rattle.header_tags.proofs.Found.{field_append}
 use Rattle.header_reader.specs.declared.Header.{Header}
 use Rattle.header_writer.specs.Writing.{front, required_fields, hint_fields, header_bytes, Write, write_header}
-use Rattle.header_writer.specs.Filled.{end_place, EndsFilled, FillsTo256}
+use Rattle.header_writer.specs.Filled.{end_place, FillsTo256}
 use Rattle.header_writer.proofs.Putting.{length_required, length_hint, length_header, written}
 
 length_of_hint : (b : Bool) (h : List ℕ) → length h ≡ 32 → 138 + length (field_bytes (hint_fields b h)) ≡ end_place b

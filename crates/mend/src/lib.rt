@@ -4,7 +4,7 @@
 ghost use Rattle.std.specs.Prelude.{◌≡◌};
 ghost use Rattle.numbers.specs.Answer.{gives};
 ghost use Rattle.flash.specs.Sectors.{Partition};
-ghost use Rattle.flash.specs.Buffers.{lent, Shaped};
+ghost use Rattle.flash.specs.Buffers.{flash, Shaped};
 ghost use Rattle.mending.specs.Mending.{may_mend, with_mark};
 ghost use Rattle.mend.specs.Delivered.{mended, MendDelivers};
 ghost use Rattle.mend.specs.Inner.{permit_of, permit_at, first_mark, mend_after};
@@ -56,9 +56,9 @@ fn permit(g: Geometry, boot: &[u8], update: &[u8]) -> MendPermit
 
 // The flags of the first mark that fits are written.
 fn write_first<'a>(g: Geometry, boot: &'a [u8], update: &'a mut [u8], swap: &'a [u8]) -> MendAnswer
-    requires { Shaped g (lent boot update swap) }
-    ensures { mended result (lent boot.entry update.entry swap.entry) update.new
-        ≡ mend_after g (lent boot.entry update.entry swap.entry) (gives tt) }
+    requires { Shaped g (flash boot.now update.old swap.now) }
+    ensures { mended result (flash boot.now update.old swap.now) update.new
+        ≡ mend_after g (flash boot.now update.old swap.now) (gives tt) }
 {
     match mending_search::first_fitting(g, boot, update, swap) {
         FoundMark::First(mark) => {
@@ -71,9 +71,9 @@ fn write_first<'a>(g: Geometry, boot: &'a [u8], update: &'a mut [u8], swap: &'a 
 
 // Mending of buffers whose lengths are right.
 fn mend_within<'a>(g: Geometry, boot: &'a [u8], update: &'a mut [u8], swap: &'a [u8]) -> MendAnswer
-    requires { Shaped g (lent boot update swap) }
-    ensures { mended result (lent boot.entry update.entry swap.entry) update.new
-        ≡ mend_after g (lent boot.entry update.entry swap.entry) (permit_at g boot.now update.old) }
+    requires { Shaped g (flash boot.now update.old swap.now) }
+    ensures { mended result (flash boot.now update.old swap.now) update.new
+        ≡ mend_after g (flash boot.now update.old swap.now) (permit_at g boot.now update.old) }
 {
     match permit(g, boot, update) {
         MendPermit::Granted => write_first(g, boot, update, swap),
@@ -89,7 +89,7 @@ pub fn mend<'a>(
     update: &'a mut [u8],
     swap: &'a [u8],
 ) -> MendAnswer
-    ensures { MendDelivers sectors size (lent boot.entry update.entry swap.entry) result update.new }
+    ensures { MendDelivers sectors size (flash boot.now update.old swap.now) result update.new }
 {
     match flash::check_flash(sectors, size, boot, update, swap) {
         GeometryAnswer::Fits(g) => mend_within(g, boot, update, swap),

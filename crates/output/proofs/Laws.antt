@@ -1,11 +1,11 @@
 -- Bytes written one behind another. Assumes nothing.
 use mathlib.Core.Path.{◌≡◌, refl, sym, ap, ◌∙◌}
-use Prim.Native.Nat.{ℕ, suc, ◌+◌, ◌-◌, ◌≤◌}
-use mathlib.Core.List.{List, [], ◌∷◌, ◌++◌, append_assoc, append-nil}
+use Prim.Native.Nat.{ℕ, suc, ◌+◌, ◌≤◌}
+use mathlib.Core.List.{List, [], ◌∷◌, ◌++◌, append_assoc}
 use native.Mathlib.Omega.{arith}
 use native.Mathlib.Nat.{add-zero}
-use lib.ListN.{length, take, drop, set, length-append, length-drop, drop_of_length-le}
-use lib.Seq.{sets, sets-eq, length-sets, take_all, take-length, drop-drop}
+use lib.ListN.{length, take, drop, set, length-append}
+use lib.Seq.{sets, sets-eq, length-sets, drop-drop}
 use borrow.Rule.Slice.PartMut.{put_mid}
 use Rattle.output.specs.Puts.{Puts}
 
@@ -32,19 +32,9 @@ puts_as {d} {e} {a} {b} {p} {q} x same = rw same at x
 pub puts_length : {d e a : List ℕ} {p q : ℕ} → Puts d e p a q → length e ≡ length d
 puts_length {d} {e} {a} {p} x = ap length x.is ∙ length-sets d p a
 
--- bytes copied to the start of a part that goes to the buffer's end
-pub puts_copied : (d b y : List ℕ) (p q : ℕ) → p + length b ≤ length d → q ≡ p + length b
-    → y ≡ take (length b) b ++ drop (length b) (take (length d - p) (drop p d)) → Puts d (put_mid p (length d - p) d y) p b q
-puts_copied d b y p q fits at e =
-    let part : take (length d - p) (drop p d) ≡ drop p d = take_all (length d - p) (drop p d) (omega (arith, length-drop p d)) in
-    let none : drop (length d - p) (drop p d) ≡ [] =
-    drop_of_length-le (drop p d) {i = length d - p} (omega (arith, length-drop p d)) in
-    record {
-      is =
-          rw (e, part, take-length, drop-drop (length b) p d, none, append-nil)
-          (sym (append_assoc (take p d) b (drop (p + length b) d)) ∙ sym (sets-eq b d p fits));
-      behind = at;
-    }
+-- bytes copied over the part that is as long as they are
+pub puts_copied : (d b y : List ℕ) (p k q : ℕ) → p + length b ≤ length d → k ≡ length b → q ≡ p + length b → y ≡ b → Puts d (put_mid p k d y) p b q
+puts_copied d b y p k q fits long at e = record { is = rw (e, long, drop-drop (length b) p d) (sym (append_assoc (take p d) b (drop (p + length b) d)) ∙ sym (sets-eq b d p fits)); behind = at }
 
 -- the bytes written from the start, and behind them what stood there
 pub puts_whole : {d e a : List ℕ} {q : ℕ} → Puts d e 0 a q → length a ≤ length d → e ≡ a ++ drop (length a) d

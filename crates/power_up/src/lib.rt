@@ -4,7 +4,7 @@
 ghost use Rattle.std.specs.Prelude.{◌≡◌, ◌≤◌};
 ghost use Rattle.flash.specs.Sizes.{firmware};
 ghost use Rattle.flash.specs.Sectors.{Partition};
-ghost use Rattle.flash.specs.Buffers.{lent, Shaped};
+ghost use Rattle.flash.specs.Buffers.{flash, Shaped};
 ghost use Rattle.flash_flags.specs.Front.{WellFormed};
 ghost use Rattle.exchange.specs.Order.{run};
 ghost use Rattle.exchange.specs.Decision.{decide_within};
@@ -95,9 +95,9 @@ fn do_job(
     swap: &mut [u8],
     budget: u64,
 ) -> PowerUpAnswer
-    requires { (Shaped g (lent boot update swap)) × (WellFormed g update.old) }
-    ensures { answered result (lent boot.exit update.exit swap.exit)
-        ≡ worked check_of g job (reason_of reason) (run job g budget 0 (lent boot.entry update.entry swap.entry)) }
+    requires { (Shaped g (flash boot.old update.old swap.old)) × (WellFormed g update.old) }
+    ensures { answered result (flash boot.new update.new swap.new)
+        ≡ worked check_of g job (reason_of reason) (run job g budget 0 (flash boot.old update.old swap.old)) }
 {
     let end = exchange_steps::repeat_step(g, job, boot, update, swap, budget);
     let left = end.left;
@@ -117,9 +117,9 @@ fn carry_out(
     swap: &mut [u8],
     budget: u64,
 ) -> PowerUpAnswer
-    requires { (Shaped g (lent boot update swap)) × (plan_of plan ≡ decide_within check_of g boot.old update.old) }
-    ensures { answered result (lent boot.exit update.exit swap.exit)
-        ≡ carry_out check_of g (lent boot.entry update.entry swap.entry) budget (plan_of plan) }
+    requires { (Shaped g (flash boot.old update.old swap.old)) × (plan_of plan ≡ decide_within check_of g boot.old update.old) }
+    ensures { answered result (flash boot.new update.new swap.new)
+        ≡ carry_out check_of g (flash boot.old update.old swap.old) budget (plan_of plan) }
 {
     match plan {
         Plan::Refuse(refusal) => idle(Outcome::Refused(refusal)),
@@ -137,8 +137,8 @@ pub fn power_up(
     swap: &mut [u8],
     budget: u64,
 ) -> PowerUpAnswer
-    ensures { Delivers sectors size (lent boot.entry update.entry swap.entry) budget
-        result (lent boot.exit update.exit swap.exit) }
+    ensures { Delivers sectors size (flash boot.old update.old swap.old) budget
+        result (flash boot.new update.new swap.new) }
 {
     match flash::check_flash(sectors, size, boot, update, swap) {
         GeometryAnswer::Fits(g) => {

@@ -1,25 +1,52 @@
 -- What one line says, by the tests on the way. Assumes nothing.
-use mathlib.Core.Path.{◌≡◌, refl, sym, ap}
-use Prim.Native.Nat.{ℕ, suc, ◌+◌, ◌-◌, ◌≤◌}
+use mathlib.Core.Path.{◌≡◌, refl, sym, ap, ◌∙◌}
+use Prim.Native.Nat.{ℕ, suc, ◌+◌, ◌-◌, ◌≤◌, ◌<◌}
 use mathlib.Core.List.{List, [], ◌∷◌}
 use mathlib.Core.Bool.{Bool, true, false}
 use native.Mathlib.Omega.{arith}
-use lib.ListN.{length, get_or, take, drop, get_or-eq_default, length-drop}
-use lib.Seq.{take-length, take_all}
+use native.Mathlib.Numerals.{add-one}
+use lib.ListN.{length, get_or, take, drop, get_or-eq_default, length-drop, drop_of_length-le}
+use lib.Dec.{eqb}
+use lib.Pointwise.{pointwise, bytes_decides}
+use lib.Seq.{take_all, drop-cons}
 use borrow.Author.Tests.{eq-eqb, ne_eqb}
-use Rattle.bytes.specs.Bytes.{index_of, slice}
+use Rattle.release_lines.specs.Search.{index_after, index_of}
 use Rattle.release_lines.specs.declared.Line.TheVariants.{Passed, Value, NotUnderstood, UnknownName, BadValue}
 use Rattle.header_tags.specs.Bytes.{same}
+use Rattle.header_tags.proofs.Same.{test}
 use Rattle.release_lines.specs.Lines.{names, row_named, tests, well_formed, passed_over, line_of, LineRead}
+
+-- what a comparison of slices tells
+pub told : (a b : List ℕ) {c : List ℕ} {r v : Bool} → r ≡ pointwise eqb a b → b ≡ c → r ≡ v → same a c ≡ v
+told a b e is says = rw (← is) (test (bytes_decides a b) (sym e ∙ says))
 
 -- no row has a value's test behind the last
 pub no_test : (row : ℕ) (v : List ℕ) → 5 ≤ row → well_formed row v ≡ false
 no_test row v le = ap (λ (t : List ℕ → Bool). t v) (get_or-eq_default tests (λ w. false) le)
 
--- a search from a place to the end
-pub searched : (l : List ℕ) (from b : ℕ) {r : ℕ} → r ≡ from + index_of b (slice from (length l) l) → r ≡ from + index_of b (drop from l)
-unfolding slice
-searched l from b e = rw (take-length l) at e
+-- a search from a place on: b stands at none of the places from it to i
+pub record Searched (l : List ℕ) (b from i : ℕ) : Type 0 where
+  pub is : i + index_of b (drop i l) ≡ from + index_of b (drop from l)
+
+pub not_searched : (l : List ℕ) (b from : ℕ) → Searched l b from from
+not_searched l b from = record { is = refl }
+
+module _ {l : List ℕ} {b from i : ℕ} (s : Searched l b from i) where
+  next : i < length l → index_of b (drop i l) ≡ index_after (eqb (get_or l i 0) b) (index_of b (drop (suc i) l))
+  unfolding index_of
+  next lt = rw (drop-cons l i 0 lt)
+
+  pub stands_here : i < length l → get_or l i 0 ≡ b → i ≡ from + index_of b (drop from l)
+  stands_here lt e = let k : index_of b (drop i l) ≡ 0 = next lt ∙ rw (eq-eqb (get_or l i 0) b e) in omega (arith, s.is)
+
+  pub searched_on : i < length l → (get_or l i 0 ≡ b → ⊥) → Searched l b from (i + 1)
+  searched_on lt e =
+      let k : index_of b (drop i l) ≡ suc (index_of b (drop (suc i) l)) = next lt ∙ rw (ne_eqb (get_or l i 0) b e) in
+      record { is = rw add-one (omega (arith, s.is)) }
+
+  pub stands_nowhere : length l ≤ i → i ≡ from + index_of b (drop from l)
+  unfolding index_of
+  stands_nowhere le = let k : index_of b (drop i l) ≡ 0 = rw (drop_of_length-le l le) in omega (arith, s.is)
 
 -- a part of a slice that goes to its end
 pub rest : (l : List ℕ) (from : ℕ) → take (length l - from) (drop from l) ≡ drop from l
@@ -56,9 +83,9 @@ module _ (l : List ℕ) where
   unfolding line_of
   comment e = record { says = λ n. sym (simp (passed l e)); within = tt }
 
-  module _ (some : length l ≡ 0 → ⊥) (other : get_or l 0 0 ≡ 35 → ⊥) {s : ℕ} (found : s ≡ 0 + index_of 32 (slice 0 (length l) l)) where
+  module _ (some : length l ≡ 0 → ⊥) (other : get_or l 0 0 ≡ 35 → ⊥) {s : ℕ} (found : s ≡ 0 + index_of 32 (drop 0 l)) where
     is : index_of 32 l ≡ s
-    is = let e : s ≡ 0 + index_of 32 l = searched l 0 32 found in omega arith
+    is = omega (arith, found)
 
     pub no_space : s ≡ length l → LineRead l NotUnderstood
     unfolding line_of

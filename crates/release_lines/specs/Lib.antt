@@ -1,2 +1,3 @@
 -- The lines of a release sheet.
+pub mod Search
 pub mod Lines

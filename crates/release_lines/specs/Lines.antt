@@ -1,9 +1,9 @@
 -- A release sheet's lines: how a text is cut into them, and what one line says. Text is ASCII codes.
-use Rattle.std.specs.Prelude.{◌≡◌, ℕ, suc, ◌+◌, ◌-◌, ◌^◌, ◌≤◌, ◌<◌, List, [], ◌∷◌, Bool, true, false, cond, ◌&&◌, ◌||◌, length, get_or, take, drop, eqb}
-use Rattle.bytes.specs.Bytes.{index_of}
+use Rattle.std.specs.Prelude.{◌≡◌, ℕ, suc, ◌+◌, ◌-◌, ◌^◌, ◌≤◌, ◌<◌, List, [], ◌∷◌, Bool, true, false, cond, ◌||◌, length, get_or, take, drop, eqb}
 use Rattle.header_tags.specs.Bytes.{same}
 use Rattle.numbers.specs.Answer.{Answer, gives, refused}
 use Rattle.release_digits.specs.Digits.{decimal_up_to, hex_digits}
+use Rattle.release_lines.specs.Search.{index_of}
 use Rattle.release_lines.specs.declared.Line.{Line}
 use Rattle.release_lines.specs.declared.Line.TheVariants.{Passed, Value, NotUnderstood, UnknownName, BadValue}
 

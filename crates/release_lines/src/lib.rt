@@ -1,7 +1,8 @@
 // One line of a release sheet: a name and its value.
 #![tactic(auto)]
 
-ghost use Rattle.std.specs.Prelude.{◌≡◌};
+ghost use Rattle.std.specs.Prelude.{◌≡◌, ◌+◌, ◌≤◌, length, drop};
+ghost use Rattle.release_lines.specs.Search.{index_of};
 ghost use Rattle.release_lines.specs.Lines.{names, row_named, is_hint, well_formed, LineRead};
 
 // How many names a sheet has. Their rows are in the order of the types that their values have in a header.
@@ -30,19 +31,19 @@ pub enum Line {
 fn row_of(name: &[u8]) -> usize
     ensures { result ≡ row_named names name.now }
 {
-    if name == b"version" {
+    if name == b"version".as_slice() {
         return 0;
     }
-    if name == b"timestamp" {
+    if name == b"timestamp".as_slice() {
         return 1;
     }
-    if name == b"signature" {
+    if name == b"signature".as_slice() {
         return 2;
     }
-    if name == b"auth" {
+    if name == b"auth".as_slice() {
         return 3;
     }
-    if name == b"hint" {
+    if name == b"hint".as_slice() {
         return 4;
     }
     ROWS
@@ -52,7 +53,7 @@ fn row_of(name: &[u8]) -> usize
 fn is_hint(s: &[u8]) -> bool
     ensures { result ≡ is_hint s.now }
 {
-    if s == b"no" {
+    if s == b"no".as_slice() {
         return true;
     }
     release_digits::is_hex(s, 64)
@@ -80,6 +81,22 @@ fn is_value(row: usize, s: &[u8]) -> bool
     false
 }
 
+// The first place of b from a place of the text on, or the text's length.
+pub fn find(text: &[u8], from: usize, b: u8) -> usize
+    requires { from ≤ length text.now }
+    ensures place { result ≡ from + index_of b (drop from text.now) }
+    ensures within { result ≤ length text.now }
+{
+    let mut i = from;
+    while i < text.len() {
+        if text[i] == b {
+            return i;
+        }
+        i += 1;
+    }
+    i
+}
+
 // Reads one line.
 pub fn read_line(l: &[u8]) -> Line
     ensures { LineRead l.now result }
@@ -90,7 +107,7 @@ pub fn read_line(l: &[u8]) -> Line
     if l[0] == 35 {
         return Line::Passed;
     }
-    let space = bytes::scan::find(l, 0, l.len(), 32);
+    let space = find(l, 0, 32);
     if space == l.len() {
         return Line::NotUnderstood;
     }

@@ -9,11 +9,10 @@ use native.Mathlib.Decide.{ℕ_discrete}
 use lib.ListN.{length, get_or, take, drop, set, drop_of_length-le}
 use lib.Seq.{get_or-set_same, get_or-set_other}
 use lib.Dec.{eqb}
-use Rattle.bytes.specs.Bytes.{index_of, index_after, slice}
 use Rattle.numbers.specs.Answer.{Answer, gives, refused, then}
 use Rattle.header_places.specs.Judging.{row_of}
+use Rattle.release_lines.specs.Search.{index_after, index_of}
 use Rattle.release_lines.specs.Lines.{in_front, lines, line_of}
-use Rattle.release_lines.proofs.Reading.{searched}
 use Rattle.release_places.specs.Judging.{Seen, put, missing_row, judge, rest_of_line, values_at}
 
 -- ---- lines
@@ -24,7 +23,7 @@ others [] = []
 others (c ∷ t) = elim (eqb c 10) [ true ↦ lines t | false ↦ others t ]
 
 cut : (t : List ℕ) → lines t ≡ take (index_of 10 t) t ∷ others t
-unfolding lines index_of index_after others
+unfolding lines index_of others
 cut [] = refl
 cut (c ∷ t) = go (eqb c 10) (cut t)
   where
@@ -36,7 +35,7 @@ cut (c ∷ t) = go (eqb c 10) (cut t)
 
 -- an empty line behind the last changes nothing
 same_others : (s : Seen) (n : ℕ) (t : List ℕ) → judge s n (others t) ≡ judge s n (lines (drop (suc (index_of 10 t)) t))
-unfolding judge lines line_of index_of index_after missing_row others
+unfolding judge lines line_of index_of missing_row others
 same_others s n [] = refl
 same_others s n (c ∷ t) = go (eqb c 10) (same_others s n t)
   where
@@ -64,14 +63,14 @@ unfolding judge lines line_of missing_row
 nothing_left s n t at le = rw (drop_of_length-le t le)
 
 -- a part of the text from a place to the end that a search found
-pub line_to : (text : List ℕ) (at : ℕ) {e : ℕ} → e ≡ at + index_of 10 (slice at (length text) text) → take (e - at) (drop at text) ≡ rest_of_line text at
+pub line_to : (text : List ℕ) (at : ℕ) {e : ℕ} → e ≡ at + index_of 10 (drop at text) → take (e - at) (drop at text) ≡ rest_of_line text at
 line_to text at {e} end =
-    let k : e - at ≡ index_of 10 (drop at text) = omega (arith, searched text at 10 end) in
+    let k : e - at ≡ index_of 10 (drop at text) = omega (arith, end) in
     ap (λ (i : ℕ). take i (drop at text)) k
 
 -- a line's rest from a place within it
 pub rest_of : (t : List ℕ) (k : ℕ) → k ≤ index_of 10 t → drop k (take (index_of 10 t) t) ≡ take (index_of 10 (drop k t)) (drop k t)
-unfolding index_of index_after
+unfolding index_of
 rest_of t zero le = refl
 rest_of [] (suc k) le = refl
 rest_of (c ∷ t) (suc k) le = go (eqb c 10) le (λ h. rest_of t k h)

@@ -8,7 +8,6 @@ use native.Mathlib.Numerals.{add-one}
 use lib.ListN.{length, get_or, take, drop, set, replicate, length-take, get_or-map}
 use lib.Seq.{drop-drop}
 use borrow.Author.Tests.{lt-ltb, le-ltb, ne_eqb}
-use Rattle.bytes.specs.Bytes.{index_of, slice}
 use Rattle.numbers.specs.Answer.{Answer, gives, refused, then}
 use Rattle.numbers.specs.GivenBack.{sheet_answer}
 use Rattle.numbers.specs.declared.SheetOutcome.{SheetOutcome}
@@ -16,8 +15,8 @@ use Rattle.numbers.specs.declared.SheetOutcome.TheVariants.{Accepted}
 use Rattle.header_places.specs.Judging.{row_of}
 use Rattle.release_lines.specs.declared.Line.{Line}
 use Rattle.release_lines.specs.declared.Line.TheVariants.{Passed, Value, NotUnderstood, UnknownName, BadValue}
+use Rattle.release_lines.specs.Search.{index_of}
 use Rattle.release_lines.specs.Lines.{lines, line_of, line_says, LineRead, types}
-use Rattle.release_lines.proofs.Reading.{searched}
 use Rattle.release_places.specs.declared.Places.{Places}
 use Rattle.release_places.specs.Judging.{Seen, keep, put, complete, judge, judged, rest_of_line, value_at, values_at, Finds}
 use Rattle.release_places.proofs.Along.{not_given}
@@ -38,14 +37,11 @@ begun text = record { is = refl }
 abbrev behind : List ℕ → ℕ → ℕ → Seen → Answer Seen
 behind text n e s = judge s (n + 1) (lines (drop (e + 1) text))
 
-module _ {text places : List ℕ} {at n e : ℕ} {r u : Line} (inv : Goes text places at n) (end : e ≡ at + index_of 10 (slice at (length text) text))
+module _ {text places : List ℕ} {at n e : ℕ} {r u : Line} (inv : Goes text places at n) (end : e ≡ at + index_of 10 (drop at text))
     (read : LineRead (take (e - at) (drop at text)) r) (told : r ≡ u) where
-  ends : e ≡ at + index_of 10 (drop at text)
-  ends = searched text at 10 end
-
   turn : then (then (line_says n (rest_of_line text at) u) (λ x. put (values_at text places) n x)) (λ s. behind text n e s) ≡ judged text
   turn =
-      let k : at + suc (index_of 10 (drop at text)) ≡ e + 1 = omega (arith, ends) in
+      let k : at + suc (index_of 10 (drop at text)) ≡ e + 1 = omega (arith, end) in
       let next : drop (suc (index_of 10 (drop at text))) (drop at text) ≡ drop (e + 1) text =
       drop-drop (suc (index_of 10 (drop at text))) at text ∙ ap (λ (k : ℕ). drop k text) k in
       let said : line_says n (rest_of_line text at) u ≡ line_of n (rest_of_line text at) =
@@ -54,7 +50,7 @@ module _ {text places : List ℕ} {at n e : ℕ} {r u : Line} (inv : Goes text p
       λ s. rw (next, add-one n) in
       rw said (sym (then_same (then (line_of n (rest_of_line text at)) (λ x. put (values_at text places) n x)) same) ∙ sym (line_first (values_at text places) n (drop at text)) ∙ inv.is)
 
-module _ {text places : List ℕ} {at n e : ℕ} {r : Line} (inv : Goes text places at n) (end : e ≡ at + index_of 10 (slice at (length text) text))
+module _ {text places : List ℕ} {at n e : ℕ} {r : Line} (inv : Goes text places at n) (end : e ≡ at + index_of 10 (drop at text))
     (read : LineRead (take (e - at) (drop at text)) r) where
   pub passed : r ≡ Passed → Goes text places (e + 1) (n + 1)
   passed is = record { is = turn inv end read is }
@@ -81,13 +77,13 @@ module _ {text places : List ℕ} {at n e : ℕ} {r : Line} (inv : Goes text pla
     value_in le =
         let w : (row < 5) × (0 < from) × (from ≤ length (take (e - at) (drop at text))) = rw is at read.within in
         let k = length-take (e - at) (drop at text) in
-        let b = ends inv end read is in
+        let b = end in
         (w.0, w.1, omega (arith, w.2))
 
     pub taken : get_or places row 0 ≡ 0 → e ≤ length text → Goes text (set places row (at + from)) (e + 1) (n + 1)
     taken empty le =
         let w = value_in le in
-        let within : from ≤ index_of 10 (drop at text) = omega (arith, w.2, ends inv end read is) in
+        let within : from ≤ index_of 10 (drop at text) = omega (arith, w.2, end) in
         let rest : drop from (rest_of_line text at) ≡ rest_of_line text (at + from) =
         rest_of (drop at text) from within ∙ rw (drop-drop from at text) in
         let now : value_at text (at + from) ≡ some (drop from (rest_of_line text at)) =

@@ -1,9 +1,9 @@
 -- A release sheet: its lines in their order, and which value each of the five names has.
 use Rattle.std.specs.Prelude.{◌≡◌, ℕ, suc, ◌≤◌, List, [], ◌∷◌, map, cond, length, get_or, set, take, drop, replicate, eqb, ltb}
 use Rattle.std.proofs.Math.Option.{Option, none, some}
-use Rattle.bytes.specs.Bytes.{index_of}
 use Rattle.numbers.specs.Answer.{Answer, gives, refused, then}
 use Rattle.numbers.specs.GivenBack.{sheet_answer}
+use Rattle.release_lines.specs.Search.{index_of}
 use Rattle.release_lines.specs.Lines.{lines, types, Entry, nothing, value, line_of}
 use Rattle.release_places.specs.declared.Places.{Places}
 

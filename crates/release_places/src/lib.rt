@@ -35,7 +35,7 @@ pub fn find_values(text: &[u8]) -> Places
     let mut at: usize = 0;
     let mut n: usize = 1;
     while at < text.len() {
-        let end = bytes::scan::find(text, at, text.len(), 10);
+        let end = release_lines::find(text, at, 10);
         let line = release_lines::read_line(&text[at..end]);
         match line {
             Line::Passed => {}

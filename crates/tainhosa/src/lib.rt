@@ -3,7 +3,7 @@
 #![tactic(auto)]
 
 ghost use Rattle.std.specs.Prelude.{◌≡◌};
-ghost use Rattle.flash.specs.Buffers.{lent};
+ghost use Rattle.flash.specs.Buffers.{flash, lent};
 ghost use Rattle.tainhosa.specs.Digest.{after_digest, sha256_answer};
 ghost use Rattle.c_headers.specs.Rows.{values_from};
 ghost use Rattle.tainhosa.specs.Headers.{after_header, given, read_answer, check_answer, firmware_answer, after_write, write_answer};
@@ -290,8 +290,8 @@ pub extern "C" fn tainhosa_power_up(
     budget: u64,
     answer: &mut [u64],
 ) -> u32
-    ensures { after_call result answer.new (lent boot.exit update.exit swap.exit)
-        ≡ power_up_answer sectors size (lent boot.entry update.entry swap.entry) budget answer.old }
+    ensures { after_call result answer.new (flash boot.new update.new swap.new)
+        ≡ power_up_answer sectors size (flash boot.old update.old swap.old) budget answer.old }
 {
     if answer.len() != POWER_UP_NUMBERS {
         return WRONG_LENGTH;
@@ -323,8 +323,8 @@ pub extern "C" fn tainhosa_arm(
     swap: &mut [u8],
     count: &mut [u64],
 ) -> u32
-    ensures { after_call result count.new (lent boot.exit update.exit swap.exit)
-        ≡ arm_answer sectors size (lent boot.entry update.entry swap.entry) count.old }
+    ensures { after_call result count.new (flash boot.new update.new swap.new)
+        ≡ arm_answer sectors size (flash boot.old update.old swap.old) count.old }
 {
     if count.len() != COMMAND_NUMBERS {
         return WRONG_LENGTH;
@@ -345,8 +345,8 @@ pub extern "C" fn tainhosa_confirm(
     swap: &mut [u8],
     count: &mut [u64],
 ) -> u32
-    ensures { after_call result count.new (lent boot.exit update.exit swap.exit)
-        ≡ confirm_answer sectors size (lent boot.entry update.entry swap.entry) count.old }
+    ensures { after_call result count.new (flash boot.new update.new swap.new)
+        ≡ confirm_answer sectors size (flash boot.old update.old swap.old) count.old }
 {
     if count.len() != COMMAND_NUMBERS {
         return WRONG_LENGTH;
@@ -367,8 +367,8 @@ pub extern "C" fn tainhosa_mend<'a>(
     swap: &'a [u8],
     numbers: &mut [u64],
 ) -> u32
-    ensures { after_call result numbers.new (lent boot.entry update.exit swap.entry)
-        ≡ mend_answer sectors size (lent boot.entry update.entry swap.entry) numbers.old }
+    ensures { after_call result numbers.new (flash boot.now update.new swap.now)
+        ≡ mend_answer sectors size (flash boot.now update.old swap.now) numbers.old }
 {
     if numbers.len() != MEND_NUMBERS {
         return WRONG_LENGTH;
@@ -392,8 +392,8 @@ pub extern "C" fn tainhosa_power_up_counted(
     total: u64,
     answer: &mut [u64],
 ) -> u32
-    ensures { after_counted result answer.new row.new (lent boot.exit update.exit swap.exit)
-        ≡ counted_power_up_answer sectors size (lent boot.entry update.entry swap.entry) budget row.old total
+    ensures { after_counted result answer.new row.new (flash boot.new update.new swap.new)
+        ≡ counted_power_up_answer sectors size (flash boot.old update.old swap.old) budget row.old total
         answer.old }
 {
     if answer.len() != COUNTED_NUMBERS {
@@ -431,8 +431,8 @@ pub extern "C" fn tainhosa_arm_counted(
     total: u64,
     answer: &mut [u64],
 ) -> u32
-    ensures { after_counted result answer.new row.new (lent boot.exit update.exit swap.exit)
-        ≡ counted_arm_answer sectors size (lent boot.entry update.entry swap.entry) row.old total answer.old }
+    ensures { after_counted result answer.new row.new (flash boot.new update.new swap.new)
+        ≡ counted_arm_answer sectors size (flash boot.old update.old swap.old) row.old total answer.old }
 {
     if answer.len() != COUNTED_COMMAND_NUMBERS {
         return WRONG_LENGTH;

@@ -1,4 +1,3 @@
-use Rattle.std.proofs.Common.{rules}
 use Rattle.digest_rounds.proofs.Window.{rounded}
 use Rattle.digest_rounds.proofs.round_on.Goals as goal
 

@@ -12,7 +12,6 @@ offset_of-requires c =
 
 pub returns : goal.returns
 returns c =
-
     let g = c.args.g in
     ap (λ (at : ℕ). at + g.size) (c.offset_of.ensures.is ∙ ap (λ (m : ℕ). m * g.size) c.firmware_sectors.ensures)
     ∙ sym (size_split g c.requires)
