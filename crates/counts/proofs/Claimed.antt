@@ -2,7 +2,6 @@
 use mathlib.Core.Path.{◌≡◌, refl, sym, ap, ◌∙◌, subst}
 use mathlib.Core.Logic.{◌≢◌}
 use mathlib.Core.Bool.{Bool, true, false, cond}
-use mathlib.Core.Option.{none}
 use mathlib.Core.List.{List, []}
 use Prim.Native.Nat.{ℕ, zero, suc, ◌+◌, ◌-◌, ◌≤◌, ◌<◌}
 use native.Mathlib.Decide.{ℕ_discrete, dec_lt}
@@ -56,7 +55,7 @@ run_below g G job (suc n) p f = by (next_operation job g p f) refl (λ o. run_be
 of_plan : (P : List Operation → Type 0) → P [] → (g : Geometry) (f : Flash) (budget : ℕ) (plan : Plan) → ((job : Job) → P (operations job g budget 0 f)) → P (operations_in g f budget plan)
 of_plan P nil g f budget (turn-away r) h = nil
 of_plan P nil g f budget plain h = nil
-of_plan P nil g f budget (work job reason) h = h job
+of_plan P nil g f budget (work job why) h = h job
 
 of_power_up : (P : List Operation → Type 0) → P [] → (check : Check) (g : Geometry) (f : Flash) (budget : ℕ)
     → (Shaped g f → (job : Job) → P (operations job g budget 0 f)) → P (operations_of check g f budget)

@@ -70,7 +70,7 @@ power_up check g f budget = carry_out check g f budget (decide check g f)
 abbrev pub operations_in : Geometry → Flash → ℕ → Plan → List Operation
 operations_in g f budget (refuse r) = []
 operations_in g f budget plain = []
-operations_in g f budget (work job reason) = operations job g budget 0 f
+operations_in g f budget (work job _) = operations job g budget 0 f
 
 unfoldable pub operations_of : Check → Geometry → Flash → ℕ → List Operation
 operations_of check g f budget = operations_in g f budget (decide check g f)
@@ -79,7 +79,7 @@ operations_of check g f budget = operations_in g f budget (decide check g f)
 abbrev pub next_in : Geometry → Flash → ℕ → Plan → Next
 next_in g f k (refuse r) = Nothing
 next_in g f k plain = Nothing
-next_in g f k (work job reason) = next_operation job g (run job g k 0 f).phase (run job g k 0 f).flash
+next_in g f k (work job _) = next_operation job g (run job g k 0 f).phase (run job g k 0 f).flash
 
 unfoldable pub next_after : Check → Geometry → Flash → ℕ → Next
 next_after check g f k = next_in g f k (decide check g f)

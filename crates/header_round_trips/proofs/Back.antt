@@ -1,21 +1,21 @@
 -- What was written reads back. Assumes nothing.
 use mathlib.Core.Path.{◌≡◌, refl, sym, ap, ◌∙◌}
-use Prim.Native.Nat.{ℕ, ◌+◌, ◌-◌, ◌*◌, ◌/◌, ◌%◌, ◌^◌, ◌≤◌, ◌<◌}
+use Prim.Native.Nat.{ℕ, ◌+◌, ◌-◌, ◌%◌, ◌≤◌, ◌<◌}
 use mathlib.Core.List.{List, [], ◌∷◌, ◌++◌, append_assoc, append-nil}
 use mathlib.Core.Bool.{Bool, true, false, cond, not}
 use native.Mathlib.Omega.{arith}
-use lib.ListN.{length, get_or, take, drop, replicate, length-append, length-drop, length-replicate}
+use lib.ListN.{length, take, drop, replicate, length-append, length-drop}
 use lib.Seq.{take_at, drop_at, drop-append-add}
 use lib.Dec.{lit<, eqb}
 use borrow.Author.Tests.{le-ltb, ne_eqb}
-use Rattle.numbers.specs.Answer.{Answer, gives, then}
-use Rattle.header_tags.specs.Walk.{Tags, ended, more, tags_at}
+use Rattle.numbers.specs.Answer.{gives}
+use Rattle.header_tags.specs.Walk.{more, tags_at}
 use Rattle.header_tags.specs.Bytes.{little_endian, number, Field, tag_bytes, field_bytes}
 use Rattle.header_tags.proofs.Found.{tags_of, Writable, AllWritable, none, one, tags_there, field_append}
 use Rattle.header_places.specs.Table.{document_table}
 use Rattle.header_places.specs.Judging.{judge, row_of, places_in}
 use Rattle.header_reader.specs.declared.Header.{Header}
-use Rattle.header_reader.specs.Reading.{magic, bytes_at, value, tag_places, values_at, read_header}
+use Rattle.header_reader.specs.Reading.{magic, bytes_at, tag_places, values_at, read_header}
 use Rattle.header_reader.proofs.Answers.{by_tags, by_places}
 use Rattle.header_writer.specs.Writing.{front, required_fields, hint_fields, ending, header_bytes, Write, write, write_header}
 use Rattle.header_writer.proofs.Putting.{length_required, length_hint, length_header}

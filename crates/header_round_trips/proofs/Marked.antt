@@ -1,6 +1,6 @@
 -- Document 01's marked cases 7 to 9. Assumes nothing.
 use mathlib.Core.Path.{◌≡◌, refl, sym, ap, ◌∙◌}
-use Prim.Native.Nat.{ℕ, ◌+◌, ◌-◌, ◌^◌, ◌≤◌, ◌<◌}
+use Prim.Native.Nat.{ℕ, ◌+◌, ◌-◌, ◌≤◌}
 use mathlib.Core.List.{List, [], ◌∷◌, ◌++◌, append_assoc}
 use mathlib.Core.Bool.{Bool, true, false}
 use native.Mathlib.Omega.{arith}
@@ -13,7 +13,7 @@ use Rattle.header_tags.proofs.Found.{tags_of, end_there, field_append}
 use Rattle.header_places.specs.Table.{document_table}
 use Rattle.header_places.specs.Judging.{judge, row_of, places_in}
 use Rattle.header_reader.specs.declared.Header.{Header}
-use Rattle.header_reader.specs.Reading.{magic, bytes_at, values_at, read_header}
+use Rattle.header_reader.specs.Reading.{magic, values_at}
 use Rattle.header_reader.proofs.Answers.{by_tags, by_places}
 use Rattle.header_writer.specs.Writing.{front, required_fields, hint_fields, header_bytes, write_header}
 use Rattle.header_writer.proofs.Putting.{length_required}

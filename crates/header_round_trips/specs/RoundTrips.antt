@@ -1,6 +1,6 @@
 -- Document 01, "The header": what holds between the writer and the reader. Each statement is proved in proofs/.
 -- `write_header v out` is all that a call of the writer leaves, by its contract: its answer, and every byte of the output lent to it.
-use Rattle.std.specs.Prelude.{◌≡◌, ℕ, ◌^◌, ◌≤◌, ◌<◌, List, ◌++◌, Bool, true, false, ◌↔◌, length, get_or, take, drop, replicate}
+use Rattle.std.specs.Prelude.{◌≡◌, ℕ, ◌^◌, ◌≤◌, ◌<◌, List, ◌++◌, Bool, true, false, ◌↔◌, length, take, drop, replicate}
 use Rattle.numbers.specs.Answer.{gives, refused}
 use Rattle.header_tags.specs.Bytes.{AllBytes}
 use Rattle.header_reader.specs.declared.Header.{Header}

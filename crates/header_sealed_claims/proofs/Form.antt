@@ -14,7 +14,7 @@ use Rattle.header_tags.proofs.Standing.{begins}
 use Rattle.header_places.specs.Table.{document_table}
 use Rattle.header_places.specs.Judging.{judge, row_of, places_in}
 use Rattle.header_reader.specs.declared.Header.{Header}
-use Rattle.header_reader.specs.Reading.{magic, bytes_at, values_at, read_header}
+use Rattle.header_reader.specs.Reading.{bytes_at, values_at, read_header}
 use Rattle.header_reader.specs.Refusing.{HasMagic, HasSizeZero}
 use Rattle.header_reader.proofs.BytesAt.{part_bytes}
 use Rattle.header_reader.proofs.Answers.{by_tags, by_places}

@@ -1,3 +1,2 @@
 // What holds of the sealed profile: statements and proofs only.
 #![tactic(auto)]
-

@@ -47,7 +47,7 @@ fn has_digest(before: &[u8], firmware: &[u8], stated: &[u8]) -> bool
     ensures { result ≡ same (sha256 (before.now ++ firmware.now)) stated.now }
 {
     let digest = digest_sha256::digest_of_two(before, firmware);
-    digest[..] == *stated
+    digest.as_slice() == stated
 }
 
 // The release of a header whose tags stand at these places.

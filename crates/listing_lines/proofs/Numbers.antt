@@ -40,16 +40,6 @@ larger n j k f g h =
     let grows = pow-le-pow_right {n = 10} (omega arith) {i = k} {j = j - 1} (omega arith) in
     omega (arith, g.1)
 
--- the largest number of 64 bits has 20 digits
-pub at_most_20 : (n k : ℕ) → n < 2 ^ 64 → IsDigitCount 10 1 n k → k ≤ 20
-at_most_20 n k fits f = omega (arith, more_than_20)
-  where
-    more_than_20 : 20 < k → ⊥
-    more_than_20 h =
-        let low = f.2 (omega arith) in
-        let grows = pow-le-pow_right {n = 10} (omega arith) {i = 20} {j = k - 1} (omega arith) in
-        omega arith
-
 pub is_decimal : (n k : ℕ) → IsDigitCount 10 1 n k → last_digits 10 k n ≡ decimal n
 unfolding decimal
 is_decimal n k f =

@@ -10,8 +10,8 @@ use lib.ListN.{length, get_or, set, take, drop, replicate, get_or-map}
 use lib.Seq.{get_or-set_same, get_or-set_other, set_out}
 use lib.Dec.{eqb}
 use borrow.Author.Tests.{ne_eqb}
-use Rattle.bytes.specs.Bytes.{index_of}
 use Rattle.numbers.specs.Answer.{gives, refused}
+use Rattle.release_lines.specs.Search.{index_of}
 use Rattle.release_lines.specs.Lines.{names, row_named, well_formed, Entry, nothing, value, passed_over, line_of}
 use Rattle.release_places.specs.Judging.{Seen, keep, put, missing_row, judged, rest_of_line, value_at, values_at}
 use Rattle.release_places.proofs.Along.{not_given, along}

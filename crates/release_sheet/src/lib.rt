@@ -24,7 +24,7 @@ fn read_number(text: &[u8], at: usize, most: u64) -> u64
     requires { (at ≤ length text.now) × (decimal_up_to most (rest_of_line text.now at) ≡ true) }
     ensures { (result ≡ decimal (rest_of_line text.now at)) × (result ≤ most) }
 {
-    let end = bytes::scan::find(text, at, text.len(), 10);
+    let end = release_lines::find(text, at, 10);
     let parsed = release_digits::decimal(&text[at..end], most);
     parsed.number
 }
@@ -34,7 +34,7 @@ fn read_signature(text: &[u8], at: usize) -> [u8; 64]
     requires { (at ≤ length text.now) × (hex_digits 128 (rest_of_line text.now at) ≡ true) }
     ensures { result ≡ hex_bytes (rest_of_line text.now at) }
 {
-    let end = bytes::scan::find(text, at, text.len(), 10);
+    let end = release_lines::find(text, at, 10);
     let mut b = [0u8; 64];
     release_digits::put_hex(&text[at..end], &mut b);
     b
@@ -45,7 +45,7 @@ fn has_hint(text: &[u8], at: usize) -> bool
     requires { at ≤ length text.now }
     ensures { result ≡ not (same (rest_of_line text.now at) no_hint) }
 {
-    let end = bytes::scan::find(text, at, text.len(), 10);
+    let end = release_lines::find(text, at, 10);
     text[at..end] != b"no"[..]
 }
 
@@ -56,7 +56,7 @@ fn read_hint(text: &[u8], at: usize) -> [u8; 32]
 {
     let mut b = [0u8; 32];
     if has_hint(text, at) {
-        let end = bytes::scan::find(text, at, text.len(), 10);
+        let end = release_lines::find(text, at, 10);
         release_digits::put_hex(&text[at..end], &mut b);
         return b;
     }
