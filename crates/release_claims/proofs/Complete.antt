@@ -9,7 +9,7 @@ use native.Mathlib.Omega.{arith}
 use native.Mathlib.Decide.{ℕ_discrete}
 use lib.ListN.{length, get_or, set, take, replicate, length-set}
 use lib.Seq.{get_or-set_same, get_or-set_other, ext_get_or}
-use Rattle.bytes.specs.Bytes.{index_of, index_after}
+use Rattle.release_lines.specs.Search.{index_of}
 use Rattle.numbers.specs.Answer.{gives, then}
 use Rattle.numbers.specs.Every.{Every}
 use Rattle.header_tags.specs.Bytes.{same}
@@ -21,7 +21,7 @@ use Rattle.release_claims.proofs.Once.{nothing_seen}
 
 -- two names of the table are told apart by what stands before the first space
 row_is : (r : ℕ) → r < 5 → (w : List ℕ) → row_named names (take (index_of 32 (named (get_or names r []) w)) (named (get_or names r []) w)) ≡ r
-unfolding index_of index_after row_named same
+unfolding index_of row_named same
 row_is zero lt w = refl
 row_is (suc zero) lt w = refl
 row_is (suc (suc zero)) lt w = refl

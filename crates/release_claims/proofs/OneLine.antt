@@ -8,7 +8,7 @@ use native.Mathlib.Numerals.{add-one}
 use lib.ListN.{length, get_or, take, drop}
 use lib.Dec.{eqb}
 use borrow.Author.Tests.{eqb-true, eqb-false, ne_eqb}
-use Rattle.bytes.specs.Bytes.{index_of, index_after}
+use Rattle.release_lines.specs.Search.{index_of, index_after}
 use Rattle.numbers.specs.Answer.{gives, refused}
 use Rattle.header_tags.specs.Bytes.{same}
 use Rattle.release_lines.specs.Lines.{names, row_named, well_formed, nothing, value, passed_over, line_of}
@@ -20,7 +20,7 @@ use Rattle.release_claims.specs.FromLines.{named}
 -- what it says, of each row
 pub named_line : (row : ℕ) → row < 5 → (n : ℕ) (w : List ℕ)
     → line_of n (named (get_or names row []) w) ≡ cond (well_formed row w) (gives (value row w)) (refused 103 n)
-unfolding line_of index_of index_after row_named same
+unfolding line_of index_of row_named same
 named_line zero lt n w = rw (ne_eqb 7 (length (named (get_or names 0 []) w)) (λ e. omega arith))
 named_line (suc zero) lt n w = rw (ne_eqb 9 (length (named (get_or names 1 []) w)) (λ e. omega arith))
 named_line (suc (suc zero)) lt n w = rw (ne_eqb 9 (length (named (get_or names 2 []) w)) (λ e. omega arith))
@@ -30,7 +30,7 @@ named_line (suc (suc (suc (suc (suc row))))) lt n w = absurd (omega arith)
 
 -- cut at a byte that stands in it
 split : (b : ℕ) (l : List ℕ) → (index_of b l ≡ length l → ⊥) → l ≡ take (index_of b l) l ++ (b ∷ drop (suc (index_of b l)) l)
-unfolding index_of index_after
+unfolding index_of
 split b [] ne = absurd (ne refl)
 split b (c ∷ l) ne = go (eqb c b) refl ne (λ h. split b l h)
   where

@@ -7,7 +7,7 @@ use lib.Dec.{ltb, lit<}
 use borrow.Author.Tests.{ltb-true}
 use Rattle.numbers.specs.Every.{Every}
 use Rattle.numbers.proofs.Tests.{first_of, second_of}
-use Rattle.bytes.specs.Bytes.{index_of, index_after}
+use Rattle.release_lines.specs.Search.{index_of}
 use Rattle.release_digits.specs.Digits.{all_digits, number_from, all_hex, hex_bytes}
 use Rattle.header_tags.specs.Bytes.{same}
 use Rattle.release_lines.specs.Lines.{lines, row_named, line_of}
@@ -45,7 +45,7 @@ largest_writable_lem =
     }
 
 pub witnesses : Witnesses
-unfolding index_of index_after all_digits number_from all_hex hex_bytes lines same row_named line_of missing_row judge judged read_sheet
+unfolding index_of all_digits number_from all_hex hex_bytes lines same row_named line_of missing_row judge judged read_sheet
 witnesses =
     record {
       listing = refl;

@@ -1,12 +1,12 @@
 -- A release sheet made from values reads back to them. Proved in proofs/.
-use Rattle.std.specs.Prelude.{◌≡◌, ℕ, ◌<◌, List, [], ◌∷◌, ◌++◌, Bool, true, false, ◌⊎◌, get_or}
+use Rattle.std.specs.Prelude.{◌≡◌, ℕ, ◌<◌, List, [], ◌∷◌, ◌++◌, Bool, true, false, get_or}
 use Rattle.numbers.specs.Answer.{gives}
 use Rattle.numbers.specs.Every.{Every}
 use Rattle.io.specs.Digits.{last_digits}
 use Rattle.listing_lines.specs.Lines.{line, decimal}
 use Rattle.release_values.specs.declared.Stated.{Stated}
 use Rattle.release_values.specs.Stated.{Statable}
-use Rattle.release_lines.specs.Lines.{lines, names, no_hint, passed_over}
+use Rattle.release_lines.specs.Lines.{lines, names, no_hint}
 use Rattle.release_sheet.specs.Reading.{read_sheet}
 use Rattle.release_claims.specs.FromLines.{named, OnlyLine, Known}
 

@@ -1,0 +1,29 @@
+use mathlib.Core.Path.{◌∙◌}
+use Rattle.flash.specs.Buffers.{flash}
+use Rattle.flash.proofs.Checked.{boot_partition, update_partition}
+use Rattle.flash.proofs.Answers.{flash_given_lem}
+use Rattle.image.specs.Verdict.{check_of}
+use Rattle.power_up_decision.specs.Inner.{plan_of}
+use Rattle.power_up.proofs.Calls.{power_up_inside, power_up_outside}
+use Rattle.power_up.proofs.power_up.Goals as goal
+
+pub decide-plan-requires : goal.decide-plan-requires
+decide-plan-requires c =
+    let S = flash_given_lem _ _ _ _ (rw c.in-Fits.is at c.check_flash.ensures) in (boot_partition _ _ S, update_partition _ _ S)
+
+pub carry_out-requires : goal.carry_out-requires
+carry_out-requires c = (flash_given_lem _ _ _ _ (rw c.in-Fits.is at c.check_flash.ensures), c.decide-plan.ensures)
+
+pub returns-in-Fits : goal.returns-in-Fits
+returns-in-Fits c =
+    let a = c.args in
+    let d = c.decide-plan in
+    c.carry_out.ensures
+    ∙ power_up_inside a.sectors a.size (flash a.boot.now a.update.now a.swap.now) _ (rw c.in-Fits.is at c.check_flash.ensures) check_of
+    a.budget (plan_of d.result) d.ensures
+
+pub returns-in-Outside : goal.returns-in-Outside
+returns-in-Outside c =
+    let a = c.args in
+    rw c.idle.ensures
+    (power_up_outside a.sectors a.size (flash a.boot.now a.update.now a.swap.now) (rw c.in-Outside.is at c.check_flash.ensures) check_of a.budget)
