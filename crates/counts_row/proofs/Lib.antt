@@ -1,4 +1,2 @@
--- The laws that the proofs of this crate cite.
--- Along a row; the checks of a row, and the places within it
-mod Along
-mod Tests
+-- The law that the proofs of this crate cite.
+mod Inside
