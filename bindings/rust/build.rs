@@ -1,5 +1,5 @@
 //! Links the library's archive, `libtainhosa.a`: from the folder that TAINHOSA_LIBRARY names, else from the repository's
-//! `target/staticlib`, where `rt staticlib tainhosa` leaves it.
+//! `target/staticlib`, where `tools/ready library` leaves it.
 use std::path::PathBuf;
 
 fn main() {
@@ -10,7 +10,7 @@ fn main() {
     let archive = folder.join("libtainhosa.a");
     if !archive.is_file() {
         eprintln!(
-            "{} is missing: run rt staticlib tainhosa, or set TAINHOSA_LIBRARY to the folder that has it",
+            "{} is missing: run tools/ready library, or set TAINHOSA_LIBRARY to the folder that has it",
             archive.display()
         );
         std::process::exit(1);

@@ -36,7 +36,7 @@
 //! # Linking
 //!
 //! The build takes `libtainhosa.a` from the folder that the variable `TAINHOSA_LIBRARY` names, else from `target/staticlib` of the
-//! repository, where `rt staticlib tainhosa` leaves it. The archive is for x86-64.
+//! repository, where `tools/ready library` leaves it. The archive is for x86-64.
 #![deny(missing_docs)]
 #![deny(unsafe_op_in_unsafe_fn)]
 

@@ -24,11 +24,8 @@ fn print_line(rt: &impl Print, digest: [u8; 32], name: &str) -> io::Result<()> {
 fn million() -> [u8; 32] {
     let part = [b'a'; 1000];
     let mut d = Hasher::new();
-    let mut i: usize = 0;
-    while i < 1000 {
-        let next = d.absorb(&part);
-        d = next;
-        i += 1;
+    for _ in 0..1000 {
+        d = d.absorb(&part);
     }
     d.finish()
 }
@@ -36,21 +33,17 @@ fn million() -> [u8; 32] {
 // Byte i of the pattern is (7 i + 3) modulo 256.
 fn pattern() -> [u8; 200] {
     let mut p = [0u8; 200];
-    let mut i: usize = 0;
-    while i < 200 {
+    for i in 0..200 {
         p[i] = ((7 * i + 3) % 256) as u8;
-        i += 1;
     }
     p
 }
 
 // A line for each length from 0 to 200.
 fn print_patterns(rt: &impl Print, p: [u8; 200]) -> io::Result<()> {
-    let mut n: usize = 0;
-    while n <= 200 {
+    for n in 0..=200 {
         print(rt, digest_sha256::digest(&p[..n]), "pattern-")?;
         println!(rt; "{n}")?;
-        n += 1;
     }
     Ok(())
 }

@@ -1,4 +1,2 @@
--- The laws that the proofs of this crate cite.
--- The statuses, as the code reads them; each call by its first check
-mod Readings
+-- Each call by its first check.
 pub mod Calls

@@ -1,4 +1,3 @@
--- The place of the status byte; both statuses; a byte that is not allowed.
-pub mod Room
+-- Both statuses; a byte that is not allowed.
 pub mod Both
 pub mod Ten

@@ -90,6 +90,7 @@ pub fn read_sealed(s: &[u8]) -> SealedAnswer
 }
 
 // Writes a sealed header into the first 256 bytes of a lent output, and no other. A refusal changes no byte.
+#[tactic(auto, using(crate::proofs::Answers::sealed_short, crate::proofs::Answers::sealed_zero))]
 pub fn write_sealed(out: &mut [u8], v: Header) -> SealedWriteOutcome
     ensures { write (sealed_writer_answer result) out.new ≡ write_sealed v out.old }
 {

@@ -321,7 +321,7 @@ fn has_digest<'a>(
     let digest = end_digest(g, boot, update, swap, image, mark, claim, h);
     let first = old_sector(g, boot, update, swap, image, mark, SectorNumber(0));
     let at = claim.digest + 4;
-    digest[..] == first[at..at + 32]
+    digest.as_slice() == &first[at..at + 32]
 }
 
 // Both old images have the digests that their headers state, UPDATE's claim u and BOOT's b. d and e have taken in UPDATE's and BOOT's

@@ -10,15 +10,14 @@ use Rattle.numbers.specs.declared.SheetOutcome.TheVariants.{Accepted}
 use Rattle.numbers.specs.declared.WriteOutcome.TheVariants.{Written}
 use Rattle.numbers.specs.GivenBack.{sheet_answer}
 use Rattle.header_writer.specs.Writing.{Write, write}
-use Rattle.release_values.specs.declared.Stated.{Stated}
 use Rattle.release_sheet.specs.declared.SheetAnswer.{SheetAnswer}
 use Rattle.release_sheet.specs.Reading.{read_sheet, stated_of, Reads}
-use Rattle.release_claims.specs.Witness.{listed, listed_values}
+use Rattle.release_claims.specs.Witness.{listed_values}
 use Rattle.release_claims.proofs.Witness.{witnesses}
 use Rattle.release_claims.proofs.Writable.{read_is_writable}
 use Rattle.release_claims.proofs.Once.{no_value_without_its_line}
 use Rattle.release_header.specs.Making.{make_header}
-use Rattle.release_round_trips.specs.Made.{Makable, MadeGood, example_firmware}
+use Rattle.release_round_trips.specs.Made.{Makable, example_firmware}
 use Rattle.release_round_trips.specs.FromSheet.{SheetToImage, SignedAfterwards, SheetMet}
 use Rattle.release_round_trips.proofs.Signed.{digest_before_signing}
 use Rattle.release_round_trips.proofs.Good.{made_checks}

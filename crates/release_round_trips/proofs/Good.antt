@@ -1,10 +1,10 @@
 -- What is made for a firmware is a good image. Assumes nothing.
 use mathlib.Core.Path.{◌≡◌, refl, sym, ap, ap₂, ◌∙◌}
-use Prim.Native.Nat.{ℕ, ◌+◌, ◌-◌, ◌*◌, ◌≤◌, ◌<◌}
+use Prim.Native.Nat.{ℕ, ◌+◌, ◌-◌, ◌*◌, ◌≤◌}
 use mathlib.Core.List.{List, [], ◌++◌, append-nil}
 use mathlib.Core.Bool.{Bool, true, false}
 use native.Mathlib.Omega.{arith}
-use lib.ListN.{length, take, drop, replicate, length-append}
+use lib.ListN.{length, take, replicate, length-append}
 use lib.Seq.{take_at, take-length, take-append-add, take-take}
 use lib.Dec.{lit<, lit≤}
 use Rattle.numbers.specs.Answer.{Answer, gives, then}
@@ -25,10 +25,10 @@ use Rattle.image.specs.Check.{values_in, covered, image_in, check_image}
 use Rattle.image.proofs.Ordered.{digest_same}
 use Rattle.numbers.proofs.Refusals.{given_same}
 use Rattle.release_values.specs.declared.Stated.{Stated}
-use Rattle.release_header.specs.Making.{header_with, digest_for, header_for, make_header}
+use Rattle.release_header.specs.Making.{digest_for, header_for, make_header}
 use Rattle.release_header.proofs.Answers.{made, covers}
 use Rattle.release_round_trips.proofs.Signed.{signed_digest}
-use Rattle.release_round_trips.specs.Made.{Makable, Placed, MadeChecks, OutputHasNoSay, UnstatedHintHasNoSay, example_stated, example_firmware, Met, PremisesMet}
+use Rattle.release_round_trips.specs.Made.{Makable, Placed, MadeChecks, OutputHasNoSay, UnstatedHintHasNoSay, example_stated, example_firmware, PremisesMet}
 
 -- a digest has 32 bytes
 digest_length : (v : Stated) (f : List ℕ) → length (digest_for v f) ≡ 32

@@ -1,3 +1,2 @@
 // The theorems on a firmware's header as it is made: definitions and proofs only.
 #![tactic(auto)]
-
