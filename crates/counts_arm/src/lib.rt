@@ -3,7 +3,7 @@
 
 ghost use Rattle.std.specs.Prelude.{◌≡◌, length};
 ghost use Rattle.flash.specs.Sizes.{geometry};
-ghost use Rattle.flash.specs.Buffers.{lent, Shaped};
+ghost use Rattle.flash.specs.Buffers.{flash, Shaped};
 ghost use Rattle.exchange.specs.Commands.{command, arm_operations};
 ghost use Rattle.exchange_commands.specs.declared.CommandKind.TheVariants.{Arm};
 ghost use Rattle.exchange_commands.specs.Numbers.{command_of, commanded};
@@ -43,9 +43,9 @@ fn obey(
     swap: &mut [u8],
     row: &mut [u32],
 ) -> CommandAnswer
-    requires { (Shaped g (lent boot update swap)) × (length row.old ≡ row_length g) × (RoomForM g row.old) }
-    ensures { (commanded result (lent boot.exit update.exit swap.exit)
-        ≡ command g arm_operations (permit_at Arm g boot.old update.old) (lent boot.entry update.entry swap.entry))
+    requires { (Shaped g (flash boot.old update.old swap.old)) × (length row.old ≡ row_length g) × (RoomForM g row.old) }
+    ensures { (commanded result (flash boot.new update.new swap.new)
+        ≡ command g arm_operations (permit_at Arm g boot.old update.old) (flash boot.old update.old swap.old))
         × (row.new ≡ raised g (arm_done (command_of result)) row.old) }
 {
     match exchange_commands::decide(CommandKind::Arm, g, boot, update) {
@@ -95,8 +95,8 @@ pub fn arm_counted(
     row: &mut [u32],
     total: u64,
 ) -> CountedArmAnswer
-    ensures { counted_commanded result (lent boot.exit update.exit swap.exit) row.new
-        ≡ counted_arm (geometry sectors size) (lent boot.entry update.entry swap.entry) row.old total }
+    ensures { counted_commanded result (flash boot.new update.new swap.new) row.new
+        ≡ counted_arm (geometry sectors size) (flash boot.old update.old swap.old) row.old total }
 {
     match flash::check_flash(sectors, size, boot, update, swap) {
         GeometryAnswer::Fits(g) => match counts_row::check_row(g, row, total) {

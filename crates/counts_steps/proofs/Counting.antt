@@ -17,7 +17,7 @@ use Rattle.exchange.specs.Operations.{perform, phase_after}
 use Rattle.exchange.specs.Order.{next_operation, perform_next, step, operations}
 use Rattle.exchange.proofs.Runs.{operations_none, operations_some}
 use Rattle.exchange_front.specs.declared.Progress.{Progress}
-use Rattle.exchange_front.specs.Carried.{begun, progress_scanned, next_at, Current}
+use Rattle.exchange_front.specs.Carried.{progress_scanned, next_at, Current}
 use Rattle.exchange_front.proofs.Follows.{same_next}
 use Rattle.exchange_steps.specs.declared.StepAnswer.{StepAnswer}
 use Rattle.exchange_steps.specs.Inner.{stepped}
@@ -28,22 +28,11 @@ use Rattle.counts.proofs.Rows.{raises_here, raised_place}
 use Rattle.counts_row.specs.Inner.{RoomFor}
 use Rattle.counts_steps.specs.Inner.{raise_next, RoomForNext}
 
--- a step's row, by what was next
-pub counted_next : (g : Geometry) (n : Next) (o : Operation) (row row' : List ℕ) → n ≡ Do o → row' ≡ raise (slot g o) row → row' ≡ raise_next g n row
-counted_next g n o row row' e h = rw e h
-
-pub counted_none : (g : Geometry) (n : Next) (row : List ℕ) → n ≡ Nothing → row ≡ raise_next g n row
-counted_none g n row e = rw e refl
-
 -- what the row becomes by the steps that are left
 abbrev pub row_to_come : Job → Geometry → Progress → Flash → List ℕ → List ℕ
 row_to_come job g at f row = raised g (operations job g at.left at.phase f) row
 
 module _ (job : Job) (g : Geometry) where
-  pub row_start : (budget : ℕ) (f : Flash) (row : List ℕ) (at : Progress) → at ≡ begun g f.update budget
-      → row_to_come job g at f row ≡ raised g (operations job g budget 0 f) row
-  row_start budget f row at e = ap (λ (x : Progress). row_to_come job g x f row) e
-
   module _ (budget : ℕ) (at : Progress) (f f' : Flash) (r : StepAnswer) (s : stepped r f' ≡ step job g at.phase f) (row row' : List ℕ) (c : row' ≡ raise_next g r.next row) where
     -- a turn
     pub row_on : (o : Operation) → r.next ≡ Do o → r.progress ≡ progress_scanned g f'.update r.next at → 0 < at.left

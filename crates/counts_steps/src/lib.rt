@@ -3,7 +3,7 @@
 
 ghost use Rattle.std.specs.Prelude.{◌≡◌, ◌<◌, ◌≤◌, length};
 ghost use Rattle.flash.specs.Sizes.{firmware};
-ghost use Rattle.flash.specs.Buffers.{lent, Shaped};
+ghost use Rattle.flash.specs.Buffers.{flash, Shaped};
 ghost use Rattle.flash_flags.specs.Front.{WellFormed};
 ghost use Rattle.exchange.specs.Order.{run, operations};
 ghost use Rattle.exchange_front.specs.Carried.{next_at, Current};
@@ -27,10 +27,10 @@ pub fn do_next_counted(
     swap: &mut [u8],
     row: &mut [u32],
 ) -> StepAnswer
-    requires { (Shaped g (lent boot update swap)) × (at.front.0 ≤ firmware g) × (0 < at.left) × (length row.old ≡ row_length g)
+    requires { (Shaped g (flash boot.old update.old swap.old)) × (at.front.0 ≤ firmware g) × (0 < at.left) × (length row.old ≡ row_length g)
         × (RoomForNext g (next_at job g at boot.old update.old) row.old) }
-    ensures { CountedSteps job g at (lent boot.entry update.entry swap.entry) row.old
-        result (lent boot.exit update.exit swap.exit) row.new }
+    ensures { CountedSteps job g at (flash boot.old update.old swap.old) row.old
+        result (flash boot.new update.new swap.new) row.new }
 {
     let step = exchange_steps::do_next(g, job, at, boot, update, swap);
     let next = step.next;
@@ -51,11 +51,11 @@ pub fn repeat_counted(
     budget: u64,
     row: &mut [u32],
 ) -> Progress
-    requires { (Shaped g (lent boot update swap)) × (WellFormed g update.old) × (length row.old ≡ row_length g)
-        × (Within32 (raised g (operations job g budget 0 (lent boot update swap)) row.old)) }
-    ensures { (ran budget result (lent boot.exit update.exit swap.exit)
-        ≡ run job g budget 0 (lent boot.entry update.entry swap.entry))
-        × (row.new ≡ raised g (operations job g budget 0 (lent boot.entry update.entry swap.entry)) row.old)
+    requires { (Shaped g (flash boot.old update.old swap.old)) × (WellFormed g update.old) × (length row.old ≡ row_length g)
+        × (Within32 (raised g (operations job g budget 0 (flash boot.old update.old swap.old)) row.old)) }
+    ensures { (ran budget result (flash boot.new update.new swap.new)
+        ≡ run job g budget 0 (flash boot.old update.old swap.old))
+        × (row.new ≡ raised g (operations job g budget 0 (flash boot.old update.old swap.old)) row.old)
         × (Current g update.new result) × (result.left ≤ budget) }
 {
     let mut at = exchange_front::begin(g, update, budget);

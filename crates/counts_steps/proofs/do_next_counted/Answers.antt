@@ -1,0 +1,12 @@
+use mathlib.Core.Path.{sym, ◌∙◌, subst}
+use Rattle.exchange.specs.declared.Next.{Next}
+use Rattle.exchange_steps.proofs.Bounds.{next_within}
+use Rattle.counts_steps.specs.Inner.{RoomForNext}
+use Rattle.counts_steps.proofs.do_next_counted.Goals as goal
+
+pub count_done-requires : goal.count_done-requires
+count_done-requires c =
+    let a = c.args in
+    let G = c.requires.0.limits in
+    let e = sym c.do_next-step.ensures.found ∙ c.in-Do.is in
+    (G, next_within a.g G a.job a.at a.boot.now a.update.now _ c.requires.1 e, c.requires.3, subst (λ (m : Next). RoomForNext a.g m a.row.now) e c.requires.4)
