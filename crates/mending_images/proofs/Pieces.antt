@@ -3,7 +3,7 @@
 use mathlib.Core.Path.{◌≡◌, refl, sym, ap, ap₂, ◌∙◌}
 use mathlib.Core.List.{List, [], ◌∷◌, ◌++◌, append_assoc, append-nil}
 use Prim.Native.Nat.{ℕ, zero, suc, ◌+◌, ◌-◌, ◌*◌, ◌/◌, ◌%◌, min, ◌≤◌, ◌<◌}
-use native.Mathlib.Nat.{zero-add, zero-mul, suc-mul, mul-le-mul_right}
+use native.Mathlib.Nat.{zero-mul, suc-mul, mul-le-mul_right}
 use native.Mathlib.Decide.{dec_lt, ℕ_discrete}
 use native.Mathlib.Omega.{arith}
 use lib.ListN.{length, take, drop, length-append, length-drop}
@@ -54,9 +54,6 @@ take_least n l = by (dec_lt n (length l))
     by (yes h) = let e : min n (length l) ≡ n = omega arith in ap (λ (k : ℕ). take k l) e
     by (no h) = let e : min n (length l) ≡ length l = omega arith in ap (λ (k : ℕ). take k l) e ∙ take-length l ∙ sym (take_all n l (omega arith))
 
-pub not_first : (s i : ℕ) {at : ℕ} → at ≡ i * s → 256 ≤ s → 0 < i → 256 ≤ at
-not_first s i e h p = omega (arith, mul-le-mul_right s p, zero-add s, suc-mul 0 s, zero-mul s)
-
 module _ (s i end : ℕ) (l : List ℕ) {at : ℕ} (is : at ≡ i * s) where
   pub piece_first : {to : ℕ} → i ≡ 0 → 256 ≤ length l → 256 ≤ end → to ≡ min end (length l) → take (to - 256) (drop 256 l) ≡ firmware_in s i end l
   piece_first {to} z S E m =
@@ -66,17 +63,6 @@ module _ (s i end : ℕ) (l : List ℕ) {at : ℕ} (is : at ≡ i * s) where
       let b : end ≡ end - i * s = omega arith in
       ap (λ (k : ℕ). take k (drop 256 l)) e ∙ take_least (end - 256) (drop 256 l) ∙ sym (drop_take 256 end l)
       ∙ ap₂ (λ (x y : ℕ). drop x (take y l)) a b
-
-  pub piece_none : end < at → take 0 l ≡ firmware_in s i end l
-  piece_none h =
-      let e : end - i * s ≡ 0 = omega arith in
-      sym (ap (λ (k : ℕ). drop (256 - i * s) (take k l)) e ∙ drop-nil (256 - i * s))
-
-  pub piece_on : {to : ℕ} → 256 ≤ at → to ≡ min (end - at) (length l) → take to l ≡ firmware_in s i end l
-  piece_on {to} h m =
-      let o : 0 ≡ 256 - i * s = omega arith in
-      let b : end - at ≡ end - i * s = omega arith in
-      ap (λ (k : ℕ). take k l) m ∙ take_least (end - at) l ∙ ap₂ (λ (x y : ℕ). drop x (take y l)) o b
 
 -- ---- what a digest covers
 
