@@ -14,7 +14,6 @@ use Rattle.flash_flags.proofs.Laws.{same_flag_byte}
 use Rattle.mending.specs.declared.Mark.{Mark}
 use Rattle.mending.specs.Mending.{set_flags_to, differs, differing}
 use Rattle.mending.proofs.Written.{length_to, byte_to}
-use Rattle.mending_flags.specs.Wrote.{Wrote}
 use Rattle.mending_flags.specs.Inner.{WrotePair}
 use Rattle.mending_flags.proofs.Pairs.{pair_to, byte_pair}
 
@@ -45,18 +44,12 @@ pub record Passed (g : Geometry) (k : Mark) (u v : List ℕ) (c n : ℕ) : Type 
   pub count : c ≡ differing g u v n
 
 module _ (g : Geometry) (k : Mark) (u : List ℕ) where
-  -- none of them; all of them
+  -- none of them
   pub passed_none : Passed g k u u 0 0
   unfolding set_flags_to differing
   passed_none =
       let z : 0 ≡ min (2 * 0) (firmware g) = omega arith in
       record { most = omega arith; few = omega arith; bytes = ap (λ (x : ℕ). set_flags_to g k x u) z; count = refl }
-
-  pub passed_all : (v : List ℕ) (c n : ℕ) → Passed g k u v c n → (firmware g + 1) / 2 ≤ n → Wrote g k u v c
-  passed_all v c n P h =
-      let b : v ≡ set_flags_to g k (firmware g) u = P.bytes ∙ ap (λ (x : ℕ). set_flags_to g k x u) (omega arith) in
-      let e : n ≡ (firmware g + 1) / 2 = omega arith in
-      record { bytes = b; count = P.count ∙ ap (differing g u v) e ∙ ap (λ (x : List ℕ). differing g u x ((firmware g + 1) / 2)) b }
 
   module _ (U : Partition g u) where
     pub passed_length : (v : List ℕ) (c n : ℕ) → Passed g k u v c n → length v ≡ length u

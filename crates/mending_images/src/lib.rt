@@ -190,6 +190,7 @@ fn firmware_in(g: Geometry, sector: &[u8], i: SectorNumber, end: usize) -> &[u8]
 
 // What stands before the firmware of sector i and is in no hash value: in sector 0 the header's bytes before the digest's tag; before
 // another sector what is left of them, and of the firmware, behind the last whole block.
+#[tactic(auto, using(mending::proofs::Images::old_sector_length))]
 fn bytes_before<'a>(
     g: Geometry,
     boot: &'a [u8],

@@ -26,38 +26,11 @@ returns-then-i-eq0 c =
 pub offset_of-requires : goal.offset_of-requires
 offset_of-requires c = (c.requires.0.limits, omega (arith, c.requires.1, sectors_are c.args.g c.requires.0.limits))
 
-pub slice_bounds-result-end-then-offset_of-eq-HEADER_LENGTH : goal.slice_bounds-result-end-then-offset_of-eq-HEADER_LENGTH
-slice_bounds-result-end-then-offset_of-eq-HEADER_LENGTH c =
-    let a = c.args in
-    omega (
-      arith,
-      c.requires.2,
-      c.requires.0.limits.small,
-      sector_length a.g (lent a.boot a.update a.swap) c.requires.0 a.image a.mark (a.i.0 - 1) (omega (arith, c.requires.1)) c.old_sector-before.ensures,
-    )
-
 pub returns-then-offset_of-eq-HEADER_LENGTH : goal.returns-then-offset_of-eq-HEADER_LENGTH
 returns-then-offset_of-eq-HEADER_LENGTH c =
     let a = c.args in
     before_header a.g (lent a.boot a.update a.swap) c.requires.0 a.image a.mark a.digest a.i.0 (a.i.0 - 1) c.requires.2
     (omega (arith, c.if-i-eq0.false)) c.requires.1 c.offset_of.ensures.is c.old_sector-before.ensures (omega arith)
-
--- the part begins within its sector
-pub slice_bounds-result-count-2 : goal.slice_bounds-result-count-2
-slice_bounds-result-count-2 c =
-    let a = c.args in
-    omega (
-      arith,
-      sector_length a.g (lent a.boot a.update a.swap) c.requires.0 a.image a.mark (a.i.0 - 1) (omega (arith, c.requires.1)) c.old_sector-before.ensures,
-    )
-
-pub slice_bounds-result-start-2 : goal.slice_bounds-result-start-2
-slice_bounds-result-start-2 c =
-    let a = c.args in
-    omega (
-      arith,
-      sector_length a.g (lent a.boot a.update a.swap) c.requires.0 a.image a.mark (a.i.0 - 1) (omega (arith, c.requires.1)) c.old_sector-before.ensures,
-    )
 
 pub returns : goal.returns
 returns c =
