@@ -1,8 +1,4 @@
-<<<<<<< HEAD
--- What the header of an old image states.
-=======
 -- What the header of an old image states, where the reader takes it and where it does not.
->>>>>>> 432eb8508cd2025ea0e0b51b07c63b367edc0db8
 use mathlib.Core.Path.{◌≡◌, refl, sym, ◌∙◌}
 use mathlib.Core.List.{List}
 use Prim.Native.Nat.{ℕ}
