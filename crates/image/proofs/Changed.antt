@@ -1,7 +1,7 @@
 -- An image that was changed where the digest covers it. Assumes nothing.
 use mathlib.Core.Path.{◌≡◌, refl, sym, ap, ap₂, ◌∙◌}
 use mathlib.Core.Logic.{◌≢◌, ◌⊎◌, inl, inr}
-use Prim.Native.Nat.{ℕ, zero, suc, ◌+◌, ◌-◌, ◌*◌, ◌^◌, ◌≤◌, ◌<◌}
+use Prim.Native.Nat.{ℕ, zero, suc, ◌+◌, ◌^◌, ◌≤◌, ◌<◌}
 use mathlib.Core.Bool.{Bool, true, false, true≢false}
 use mathlib.Core.List.{List}
 use native.Mathlib.Omega.{arith}
@@ -24,8 +24,8 @@ use Rattle.header_reader.specs.declared.Header.{Header}
 use Rattle.header_reader.specs.Reading.{bytes_at, value}
 use Rattle.header_reader.proofs.BytesAt.{part_4, part_bytes, part_below}
 use Rattle.header_reader.proofs.Answers.{Taken, places_taken, located}
-use Rattle.image.specs.Check.{covered, image_in}
-use Rattle.image.specs.Changed.{Holds, message_of, StatesSame, NineOrCollision, ChangedIsRefused, Change, place, size, byte, version, timestamp, firmware, EachChangeIsRefused, OneDigestOneRelease, BehindHasNoSay, ChangedCallRefuses}
+use Rattle.image.specs.Check.{image_in}
+use Rattle.image.specs.Changed.{Holds, message_of, NineOrCollision, ChangedIsRefused, Change, place, size, byte, version, timestamp, firmware, EachChangeIsRefused, OneDigestOneRelease, BehindHasNoSay, ChangedCallRefuses}
 use Rattle.image.proofs.Covered.{length_covered, before, byte_before, byte_behind, all_bytes}
 use Rattle.image.proofs.Ordered.{digest_place, each_has_digest_tag, tag_within, bytes_room, message_differs, message_same, good_message, good_as_read}
 

@@ -1,12 +1,8 @@
 -- What the image check answers, by the tests on the way. Assumes nothing.
-use mathlib.Core.Path.{◌≡◌, refl, sym, ap, ap₂, ◌∙◌}
+use mathlib.Core.Path.{◌≡◌, refl, sym, ap, ◌∙◌}
 use Prim.Native.Nat.{ℕ}
-use mathlib.Core.Bool.{Bool, true, false, ◌&&◌}
-use mathlib.Core.List.{List, [], ◌∷◌}
-use native.Mathlib.Omega.{arith}
-use lib.Dec.{eqb}
-use borrow.Author.Tests.{eq-eqb, eqb-true}
-use Rattle.numbers.specs.Answer.{Answer, gives, refused, then}
+use mathlib.Core.List.{List}
+use Rattle.numbers.specs.Answer.{Answer, gives, refused}
 use Rattle.header_reader.specs.declared.Header.{Header}
 use Rattle.header_reader.specs.Reading.{blank, values_of}
 use Rattle.flash.specs.declared.Geometry.{Geometry}

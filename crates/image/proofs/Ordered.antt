@@ -26,7 +26,7 @@ use Rattle.header_tags.specs.Bytes.{same}
 use Rattle.flash.specs.Sectors.{firmware_of}
 use Rattle.image.specs.Verdict.{check_of, ChecksThatImage, CheckedIsUnderstood}
 use Rattle.image.specs.Check.{values_in, covered, covered_in, judged, image_in, check_image}
-use Rattle.image.specs.Ordered.{Covers, EachHasDigestTag, CheckOrdered, ChecksInOrder, ImageNumber, wrong_magic, wrong_size, of_tags, wrong_digest, too_short, ChecksGiveTheirNumbers, ChecksPartitions, GoodIsUnderstood}
+use Rattle.image.specs.Ordered.{Covers, EachHasDigestTag, ChecksInOrder, ImageNumber, wrong_magic, wrong_size, of_tags, wrong_digest, too_short, ChecksGiveTheirNumbers, ChecksPartitions, GoodIsUnderstood}
 use Rattle.header_tags.proofs.Same.{same_is, same_true}
 use Rattle.header_reader.proofs.Answers.{located, Taken, places_refused, places_taken}
 use Rattle.header_reader.proofs.Understood.{taken_low}

@@ -6,7 +6,6 @@ use Rattle.digest_fips180.specs.Sha256.{sha256}
 use Rattle.numbers.specs.GivenBack.{image_answer}
 use Rattle.header_reader.specs.declared.Header.{Header}
 use Rattle.header_reader.specs.Reading.{tag_places, values_at, values_of}
-use Rattle.flash.specs.declared.Geometry.{Geometry}
 use Rattle.flash.specs.Sectors.{firmware_of}
 use Rattle.flash.specs.Buffers.{partition_of}
 use Rattle.image.specs.declared.ImageAnswer.{ImageAnswer}

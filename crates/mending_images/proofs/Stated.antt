@@ -1,4 +1,4 @@
--- What the header of an old image states, where the reader takes it and where it does not.
+-- What the header of an old image states.
 use mathlib.Core.Path.{◌≡◌, refl, sym, ◌∙◌}
 use mathlib.Core.List.{List}
 use Prim.Native.Nat.{ℕ}

@@ -1,5 +1,5 @@
 -- Document 02, "Mend lost flags", "the first fitting mark": the marks are tried in their order, by the moves that they have behind them.
-use Rattle.std.specs.Prelude.{Bool, List, ℕ, drop}
+use Rattle.std.specs.Prelude.{ℕ, drop}
 use Rattle.numbers.specs.Answer.{Answer, gives}
 use Rattle.flash.specs.declared.Geometry.{Geometry}
 use Rattle.flash.specs.Sizes.{firmware}

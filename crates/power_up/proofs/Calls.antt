@@ -1,23 +1,14 @@
 -- Power-up by its first check, and the answer of a job.
-use mathlib.Core.Path.{◌≡◌, refl, sym, ap, ◌∙◌}
-use mathlib.Core.Logic.{◌≢◌}
-use mathlib.Core.List.{List}
+use mathlib.Core.Path.{◌≡◌, refl, ap}
 use Prim.Native.Nat.{ℕ, ◌-◌}
-use native.Mathlib.Omega.{arith}
-use Rattle.numbers.specs.Answer.{Answer, gives, refused, numbered, Reason}
+use Rattle.numbers.specs.Answer.{gives, refused, numbered}
 use Rattle.flash.specs.declared.Geometry.{Geometry}
 use Rattle.flash.specs.Sizes.{geometry, Limits}
 use Rattle.flash.specs.Buffers.{Flash, flash_of}
 use Rattle.flash.proofs.Answers.{flash_asked, flash_fits, flash_unfit}
-use Rattle.flash_status.specs.declared.BootStatus.{BootStatus}
-use Rattle.flash_status.specs.declared.BootStatus.TheVariants.{New as BootNew, Testing, Success}
-use Rattle.flash_status.specs.declared.UpdateStatus.{UpdateStatus}
-use Rattle.flash_status.specs.declared.UpdateStatus.TheVariants.{New as UpdateNew, Updating}
 use Rattle.flash_status.specs.StatusBytes.{boot_status_at, update_status_at}
-use Rattle.flash_flags.specs.declared.Flags.TheVariants.{Malformed}
 use Rattle.flash_flags.specs.SectorFlags.{flags_at}
-use Rattle.flash_flags.specs.Front.{WellFormed}
-use Rattle.exchange.specs.Decision.{Check, Plan, work, decide_statuses, decide_within, decide}
+use Rattle.exchange.specs.Decision.{Check, Plan, decide_statuses, decide}
 use Rattle.exchange.specs.declared.Job.{Job}
 use Rattle.exchange.specs.Order.{Run, next_operation}
 use Rattle.exchange.specs.PowerUp.{refusal, idle, outcome_by, worked, carry_out, power_up}
@@ -27,9 +18,6 @@ use Rattle.exchange_front.proofs.Follows.{same_next}
 use Rattle.exchange_steps.specs.Inner.{ran}
 use Rattle.numbers.specs.declared.TurnDownReason.{TurnDownReason}
 use Rattle.numbers.specs.GivenBack.{reason_of}
-use Rattle.power_up_decision.specs.declared.Plan as code
-use Rattle.power_up_decision.specs.declared.Plan.TheVariants.{Work}
-use Rattle.power_up_decision.specs.Inner.{plan_of}
 use Rattle.power_up.specs.declared.Outcome.{Outcome}
 use Rattle.power_up.specs.Delivered.{outcome_of, answered}
 
@@ -50,22 +38,6 @@ module _ (n s : ℕ) (f : Flash) (g : Geometry) (e : gives g ≡ flash_of n s f)
   power_up_inside check budget plan p = rw (flash_asked n s f g e) (rw (flash_fits n s f g e) (ap (carry_out check g f budget) p))
 
 -- ---- a job is worked on
-
--- only with well-formed flags: those that are not are refused before
-refused_malformed : (B : Answer BootStatus) (U : Answer UpdateStatus) (x y : Answer ℕ) (job : Job) (why : Reason) → decide_statuses B U Malformed x y ≢ work job why
-refused_malformed (refused n p) U x y job why e = let z : ◌≡◌ {A = ℕ} 0 1 = cc in omega arith
-refused_malformed (gives b) (refused n p) x y job why e = let z : ◌≡◌ {A = ℕ} 0 1 = cc in omega arith
-refused_malformed (gives BootNew) (gives UpdateNew) x y job why e = let z : ◌≡◌ {A = ℕ} 0 1 = cc in omega arith
-refused_malformed (gives Success) (gives UpdateNew) x y job why e = let z : ◌≡◌ {A = ℕ} 0 1 = cc in omega arith
-refused_malformed (gives Testing) (gives UpdateNew) x y job why e = let z : ◌≡◌ {A = ℕ} 0 1 = cc in omega arith
-refused_malformed (gives BootNew) (gives Updating) x y job why e = let z : ◌≡◌ {A = ℕ} 0 1 = cc in omega arith
-refused_malformed (gives Success) (gives Updating) x y job why e = let z : ◌≡◌ {A = ℕ} 0 1 = cc in omega arith
-refused_malformed (gives Testing) (gives Updating) x y job why e = let z : ◌≡◌ {A = ℕ} 0 1 = cc in omega arith
-
-pub work_formed : (check : Check) (g : Geometry) (boot update : List ℕ) (plan : code.Plan) (job : Job) (why : TurnDownReason) → plan ≡ Work job why
-    → plan_of plan ≡ decide_within check g boot update → WellFormed g update
-work_formed check g boot update plan job why w e q =
-    refused_malformed (boot_status_at g boot) (update_status_at g update) (check g update) (check g boot) job (reason_of why) (rw q at (sym e ∙ ap plan_of w))
 
 -- the outcome, the reason and the count beside the flash f that the steps left, by what they carried to their end
 pub job_answered : (check : Check) (g : Geometry) → Limits g → (job : Job) (why : TurnDownReason) (o : Outcome) (n budget : ℕ) (at : Progress) (f : Flash) (x : Run)
