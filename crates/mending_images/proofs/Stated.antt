@@ -1,8 +1,4 @@
-<<<<<<< HEAD
--- What the header of an old image states, where the reader takes it and where it does not.
-=======
 -- What the header of an old image states.
->>>>>>> e5d5df90a6c54bae52b6e56bbd98694c7772c2d4
 use mathlib.Core.Path.{◌≡◌, refl, sym, ◌∙◌}
 use mathlib.Core.List.{List}
 use Prim.Native.Nat.{ℕ}
