@@ -1,34 +1,36 @@
 -- What a verdict says, by the tests on the way; and what the callers of a check make of it. Assumes nothing.
 use mathlib.Core.Path.{◌≡◌, refl, sym, ap, ◌∙◌}
-use Prim.Native.Nat.{ℕ, ◌+◌, ◌-◌, ◌≤◌}
+use Prim.Native.Nat.{ℕ, ◌+◌, ◌-◌, ◌≤◌, ◌<◌}
 use mathlib.Core.Bool.{Bool, true, false, cond}
 use mathlib.Core.List.{List, ◌++◌}
 use native.Mathlib.Omega.{arith}
 use lib.Dec.{ltb}
 use lib.ListN.{length, get_or, take, drop}
-use borrow.Author.Tests.{le-ltb}
+use borrow.Author.Tests.{lt-ltb, le-ltb}
 use Rattle.numbers.specs.Answer.{Answer, gives, refused, then}
 use Rattle.header_tags.proofs.Laws.{refused_gives}
 use Rattle.digest_fips180.specs.Sha256.{sha256}
 use Rattle.flash.specs.declared.Geometry.{Geometry}
 use Rattle.flash.specs.Sectors.{firmware_of}
-use Rattle.numbers.specs.declared.HeaderOutcome.TheVariants.{Accepted}
+use Rattle.numbers.specs.declared.HeaderOutcome.TheVariants.{Accepted, WrongSize}
 use Rattle.header_places.specs.declared.Places.{Places}
 use Rattle.header_places.specs.Judging.{Finds}
 use Rattle.numbers.proofs.Refusals.{refusing}
 use Rattle.header_reader.specs.declared.Header.{Header}
 use Rattle.header_reader.specs.declared.HeaderAnswer.{HeaderAnswer}
-use Rattle.header_reader.specs.Reading.{bytes_at, tag_places, read_header, values_of, Reads}
+use Rattle.header_reader.specs.Reading.{bytes_at, tag_places, read_header, blank, values_of, Reads}
 use Rattle.header_reader.proofs.Answers.{by_places, given}
 use Rattle.numbers.specs.declared.ImageOutcome.{ImageOutcome}
 use Rattle.numbers.specs.declared.ImageOutcome.TheVariants.{Good as GoodImage, OutsideRules, BadHeader, WrongDigest}
+use Rattle.image.specs.declared.ImageAnswer.{ImageAnswer}
 use Rattle.image.specs.declared.Release.{Release}
 use Rattle.image.specs.declared.ImageVerdict.{ImageVerdict}
 use Rattle.image.specs.declared.ImageVerdict.TheVariants.{Good, Bad}
-use Rattle.numbers.specs.GivenBack.{refusal_of, bad_header, own_of}
+use Rattle.numbers.specs.GivenBack.{beside, refusal_of, bad_header, header_says, image_answer, own_of}
 use Rattle.header_tags.specs.Bytes.{same}
 use Rattle.image.specs.Check.{values_in, covered, covered_in, judged, image_in, Checks}
 use Rattle.image.specs.Verdict.{release_of, released, check_of, verdict_of, Judges}
+use Rattle.image.proofs.Laws.{turned}
 
 -- ---- a verdict, and a bad image's outcome
 
@@ -51,9 +53,24 @@ says r right e =
       bad = λ o is good. let z : ◌≡◌ {A = ℕ} 1 0 = sym (ap wrong good) ∙ sym (ap wrongly is) ∙ right in absurd (omega arith);
     }
 
+-- an outcome that is not good has its own number
+bad_own : {A : Type 0} (a : A) (x : Answer (Unit {0}))
+    → beside (bad_header x) a ≡ refused (refusal_of {A = Unit {0}} (bad_header x)).number (refusal_of {A = Unit {0}} (bad_header x)).place
+bad_own a (gives t) = refl
+bad_own a (refused n p) = refl
+
+own_is : {A : Type 0} (a : A) (o : ImageOutcome) → (o ≡ GoodImage → ⊥) → image_answer o a ≡ refused (own_of o).number (own_of o).place
+own_is a GoodImage not = absurd (not refl)
+own_is a OutsideRules not = refl
+own_is a (BadHeader o) not = bad_own a (header_says o)
+own_is a WrongDigest not = refl
+
 -- ---- the verdict on places
 
 module _ (b places : List ℕ) {z : ℕ} (size : z ≡ (values_in b places).size) where
+  pub too_large : length b - 256 < z → Judges (judged b places) (Bad (BadHeader WrongSize))
+  too_large lt = let e : judged b places ≡ refused 3 4 = simp (lt-ltb _ _ (rw size at lt)) in says _ refl (sym (ap released e))
+
   module _ (fits : z ≤ length b - 256) {at : ℕ} (place : at ≡ get_or places 2 0) {t : Bool}
       (is : t ≡ same (sha256 (take at b ++ take (256 + z - 256) (drop 256 b))) (take (at + 36 - (at + 4)) (drop (at + 4) (take 256 b)))) where
     -- the parts that are lent are what the digest covers, and the digest that is stated
@@ -135,6 +152,10 @@ module _ (b : List ℕ) (r : ImageVerdict) (judges : Judges (image_in b) r) wher
       let f : image_in b ≡ gives h.header =
       still_given (image_in b) e ∙ ap (λ (a : Answer Header). gives (values_of a)) (good_as_read is) ∙ ap gives (sym reads.values) in
       record { outcome = sym f; values = sym (ap values_of f) }
+
+  -- a bad image, with a blank header
+  pub bad_image : {a : ImageAnswer} (o : ImageOutcome) → r ≡ Bad o → (a.outcome ≡ o) × (a.header ≡ blank) → Checks (image_in b) a
+  bad_image {a} o is w = turned w (own_is a.header o (judges.bad o is)) (bad_as_told o is)
 
 -- power-up's check, by the verdict
 again : (a : Answer Header) → then a (λ v. gives v.version) ≡ then (released a) (λ r. gives r.version)
