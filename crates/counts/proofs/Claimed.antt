@@ -22,7 +22,7 @@ use Rattle.exchange.specs.declared.Next.{Next}
 use Rattle.exchange.specs.declared.Next.TheVariants.{Do, Nothing}
 use Rattle.exchange.specs.Operations.{perform, perform_all, phase_after}
 use Rattle.exchange.specs.Order.{next_operation, operations}
-use Rattle.exchange.specs.Decision.{Check, Plan, refuse as turn-away, plain, work, decide_within, decide}
+use Rattle.exchange.specs.Decision.{Check, Plan, refuse as turn_away, plain, work, decide_within, decide}
 use Rattle.exchange.specs.PowerUp.{PowerUp, refusal, idle, power_up, operations_in, operations_of}
 use Rattle.exchange.specs.Commands.{Command, command, checked, may_arm, arm_operations, arm_command}
 use Rattle.exchange.proofs.Runs.{operations_none, operations_some}
@@ -53,7 +53,7 @@ run_below g G job (suc n) p f = by (next_operation job g p f) refl (λ o. run_be
 -- ---- the operations of a power-up: a claim on those of each job, where the flash fits, is a claim on them
 
 of_plan : (P : List Operation → Type 0) → P [] → (g : Geometry) (f : Flash) (budget : ℕ) (plan : Plan) → ((job : Job) → P (operations job g budget 0 f)) → P (operations_in g f budget plan)
-of_plan P nil g f budget (turn-away r) h = nil
+of_plan P nil g f budget (turn_away r) h = nil
 of_plan P nil g f budget plain h = nil
 of_plan P nil g f budget (work job why) h = h job
 
@@ -62,7 +62,7 @@ of_power_up : (P : List Operation → Type 0) → P [] → (check : Check) (g : 
 unfolding operations_of decide
 of_power_up P nil check g f budget h = by (fits g f) refl
   where
-    by : (b : Bool) → fits g f ≡ b → P (operations_in g f budget (cond b (decide_within check g f.boot f.update) (turn-away (numbered 1 0))))
+    by : (b : Bool) → fits g f ≡ b → P (operations_in g f budget (cond b (decide_within check g f.boot f.update) (turn_away (numbered 1 0))))
     by true e = of_plan P nil g f budget (decide_within check g f.boot f.update) (h (shaped_of g f e))
     by false e = nil
 
@@ -159,11 +159,11 @@ refused_in_order = record {
 
 -- ---- what is counted
 
-module _ {A : Type 0} (flashIn : A → Flash) (countIn : A → ℕ) (g : Geometry) (f : Flash) (row : List ℕ) (total : ℕ) (refuse : ℕ → ℕ → A) (did : A) (os : List Operation)
-    (unchanged : (n p : ℕ) → flashIn (refuse n p) ≡ f) (none_counted_lem : (n p : ℕ) → countIn (refuse n p) ≡ 0)
-    (performed : flashIn did ≡ perform_all g os f) (number : countIn did ≡ length os) where
+module _ {A : Type 0} (flash_in : A → Flash) (count_in : A → ℕ) (g : Geometry) (f : Flash) (row : List ℕ) (total : ℕ) (refuse : ℕ → ℕ → A) (did : A) (os : List Operation)
+    (unchanged : (n p : ℕ) → flash_in (refuse n p) ≡ f) (none_counted_lem : (n p : ℕ) → count_in (refuse n p) ≡ 0)
+    (performed : flash_in did ≡ perform_all g os f) (number : count_in did ≡ length os) where
   done_counted : (c : Answer (Unit {0})) → (c ≡ gives tt → (length row ≡ row_length g) × SlotsBelow g os)
-      → let r = counted c refuse did g os row total in CountsDone g f row (where_taken c os) (flashIn r.own) (countIn r.own) r.row
+      → let r = counted c refuse did g os row total in CountsDone g f row (where_taken c os) (flash_in r.own) (count_in r.own) r.row
   done_counted (gives t) h = record {
     left = performed;
     number = number;

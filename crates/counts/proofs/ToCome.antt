@@ -54,17 +54,17 @@ module _ (g : Geometry) (k : ℕ) where
   at a i = raises_at k (some (row_place g a i))
 
   -- in sector i, from a phase of a leg on; and in r sectors from sector i on
-  abbrev legsFrom : ℕ → Leg → ℕ → ℕ
-  legsFrom i UpdateToSwap zero = at Swap i + (at UpdateArea i + at Boot i)
-  legsFrom i UpdateToSwap (suc p) = at UpdateArea i + at Boot i
-  legsFrom i BootToUpdate zero = at UpdateArea i + at Boot i
-  legsFrom i BootToUpdate (suc p) = at Boot i
-  legsFrom i SwapToBoot zero = at Boot i
-  legsFrom i SwapToBoot (suc p) = 0
+  abbrev legs_from : ℕ → Leg → ℕ → ℕ
+  legs_from i UpdateToSwap zero = at Swap i + (at UpdateArea i + at Boot i)
+  legs_from i UpdateToSwap (suc p) = at UpdateArea i + at Boot i
+  legs_from i BootToUpdate zero = at UpdateArea i + at Boot i
+  legs_from i BootToUpdate (suc p) = at Boot i
+  legs_from i SwapToBoot zero = at Boot i
+  legs_from i SwapToBoot (suc p) = 0
 
-  abbrev sectorsFrom : ℕ → ℕ → ℕ
-  sectorsFrom i zero = 0
-  sectorsFrom i (suc r) = legsFrom i UpdateToSwap 0 + sectorsFrom (suc i) r
+  abbrev sectors_from : ℕ → ℕ → ℕ
+  sectors_from i zero = 0
+  sectors_from i (suc r) = legs_from i UpdateToSwap 0 + sectors_from (suc i) r
 
 -- statuses with which a job has legs to do, and what closes it then
 data Busy : Job → BootStatus → UpdateStatus → Type 0 where
@@ -95,26 +95,26 @@ module _ (g : Geometry) (G : Limits g) (k : ℕ) where
   missed a i n = raises_elsewhere (row_place g a i) k n
 
   -- SWAP, once for each sector
-  all_in_swap : k ≡ 2 * g.sectors → (r i : ℕ) → i + r ≤ firmware g → sectorsFrom g k i r ≤ r
+  all_in_swap : k ≡ 2 * g.sectors → (r i : ℕ) → i + r ≤ firmware g → sectors_from g k i r ≤ r
   all_in_swap e zero i h = omega arith
   all_in_swap e (suc r) i h =
       let n = sectors_are g G in
       omega (arith, place_once Swap i, missed UpdateArea i (λ q. omega arith), missed Boot i (λ q. omega arith), all_in_swap e r (suc i) (omega arith))
 
-  none_there : k ≢ 2 * g.sectors → (r i : ℕ) → ((j : ℕ) → i ≤ j → j < i + r → (j ≢ k) × (g.sectors + j ≢ k)) → sectorsFrom g k i r ≡ 0
+  none_there : k ≢ 2 * g.sectors → (r i : ℕ) → ((j : ℕ) → i ≤ j → j < i + r → (j ≢ k) × (g.sectors + j ≢ k)) → sectors_from g k i r ≡ 0
   none_there s zero i h = refl
   none_there s (suc r) i h =
       let here = h i (omega arith) (omega arith) in
       omega (arith, missed Swap i (λ q. s (sym q)), missed UpdateArea i here.1, missed Boot i here.0, none_there s r (suc i) (λ j a b. h j (omega arith) (omega arith)))
 
-  once_elsewhere : k ≢ 2 * g.sectors → (r i : ℕ) → i + r ≤ firmware g → sectorsFrom g k i r ≤ 1
+  once_elsewhere : k ≢ 2 * g.sectors → (r i : ℕ) → i + r ≤ firmware g → sectors_from g k i r ≤ 1
   once_elsewhere s zero i h = omega arith
   once_elsewhere s (suc r) i h = by (ℕ_discrete i k) (ℕ_discrete (g.sectors + i) k) (once_elsewhere s r (suc i) (omega arith))
     where
       n : g.sectors ≡ suc (firmware g)
       n = sectors_are g G
 
-      by : Dec (i ≡ k) → Dec (g.sectors + i ≡ k) → sectorsFrom g k (suc i) r ≤ 1 → sectorsFrom g k i (suc r) ≤ 1
+      by : Dec (i ≡ k) → Dec (g.sectors + i ≡ k) → sectors_from g k (suc i) r ≤ 1 → sectors_from g k i (suc r) ≤ 1
       by (yes e) d more =
           omega (
             arith,
@@ -134,7 +134,7 @@ module _ (g : Geometry) (G : Limits g) (k : ℕ) where
       by (no e) (no d) more = omega (arith, missed Swap i (λ q. s (sym q)), missed UpdateArea i d, missed Boot i e, more)
 
   -- with what closes the job
-  few : {job : Job} {b : BootStatus} {u : UpdateStatus} (B : Busy job b u) (i r : ℕ) → i + r ≡ firmware g → sectorsFrom g k i r + closing_of g k B ≤ firmware g
+  few : {job : Job} {b : BootStatus} {u : UpdateStatus} (B : Busy job b u) (i r : ℕ) → i + r ≡ firmware g → sectors_from g k i r + closing_of g k B ≤ firmware g
   few B i r h = by (ℕ_discrete k (2 * g.sectors)) (ℕ_discrete k (firmware g)) (ℕ_discrete k (g.sectors + firmware g))
     where
       n : g.sectors ≡ suc (firmware g)
@@ -149,7 +149,7 @@ module _ (g : Geometry) (G : Limits g) (k : ℕ) where
       closes (updates Testing) = omega arith
       closes (falls_back_lem u) = omega arith
 
-      by : Dec (k ≡ 2 * g.sectors) → Dec (k ≡ firmware g) → Dec (k ≡ g.sectors + firmware g) → sectorsFrom g k i r + closing_of g k B ≤ firmware g
+      by : Dec (k ≡ 2 * g.sectors) → Dec (k ≡ firmware g) → Dec (k ≡ g.sectors + firmware g) → sectors_from g k i r + closing_of g k B ≤ firmware g
       by (yes s) d e =
           omega (arith, closes B, missed Boot (firmware g) (λ q. omega (arith, n)), missed UpdateArea (firmware g) (λ q. omega (arith, n)), all_in_swap s r i (omega arith))
       by (no s) (yes d) e =
@@ -180,7 +180,7 @@ module _ (g : Geometry) (G : Limits g) (k : ℕ) where
   data Trail (job : Job) (f : Flash) (p e : ℕ) : Type 0 where
     in_leg_lem : (b : BootStatus) (u : UpdateStatus) (B : Busy job b u) (i : ℕ) (leg : Leg) → i < firmware g → p < 3 → Shaped g f
         → AfterMoves g f.update (3 * i + leg_moves leg) → boot_status_at g f.boot ≡ gives b → update_status_at g f.update ≡ gives u
-        → e ≡ legsFrom g k i leg p + sectorsFrom g k (suc i) (firmware g - suc i) + closing_of g k B → Trail job f p e
+        → e ≡ legs_from g k i leg p + sectors_from g k (suc i) (firmware g - suc i) + closing_of g k B → Trail job f p e
     at_last : (b : BootStatus) (u : UpdateStatus) (B : Busy job b u) → Shaped g f → flags_at g f.update ≡ All0
         → boot_status_at g f.boot ≡ gives b → update_status_at g f.update ≡ gives u → e ≡ closing_of g k B → Trail job f p e
     turning_down : (b : BootStatus) → job ≡ TurnDown → Shaped g f → boot_status_at g f.boot ≡ gives b → update_status_at g f.update ≡ gives Updating
@@ -210,7 +210,7 @@ module _ (g : Geometry) (G : Limits g) (k : ℕ) where
     next_leg p = next_busy B p f (at_leg i leg) e₁ e₂ (shown_leg g f.update i leg hi h) ∙ at_leg_next p i leg (last_of B)
 
     -- the leg's sector is written with y
-    written : (p e : ℕ) (y : List ℕ) → length y ≡ g.size → p < 3 → e ≡ legsFrom g k i leg p + sectorsFrom g k (suc i) (firmware g - suc i) + closing_of g k B
+    written : (p e : ℕ) (y : List ℕ) → length y ≡ g.size → p < 3 → e ≡ legs_from g k i leg p + sectors_from g k (suc i) (firmware g - suc i) + closing_of g k B
         → Trail job (put g (target leg) i y f) p e
     written p e y Y hp q =
         in_leg_lem b u B i leg hi hp (put_shaped g G (target leg) i y f (omega arith) Y s) (moves_kept (target leg) i y f (3 * i + leg_moves leg) s hi Y h)
@@ -219,7 +219,7 @@ module _ (g : Geometry) (G : Limits g) (k : ℕ) where
   -- a leg is over
   turned : {job : Job} {b : BootStatus} {u : UpdateStatus} (B : Busy job b u) (i : ℕ) (leg : Leg) → i < firmware g → (f : Flash) → Shaped g f
       → AfterMoves g f.update (suc (3 * i + leg_moves leg)) → boot_status_at g f.boot ≡ gives b → update_status_at g f.update ≡ gives u
-      → (e : ℕ) → e ≡ legsFrom g k i leg 2 + sectorsFrom g k (suc i) (firmware g - suc i) + closing_of g k B → Trail job f 0 e
+      → (e : ℕ) → e ≡ legs_from g k i leg 2 + sectors_from g k (suc i) (firmware g - suc i) + closing_of g k B → Trail job f 0 e
   turned {job} {b} {u} B i UpdateToSwap hi f s h e₁ e₂ e q =
       let n : suc (3 * i + 0) ≡ 3 * i + 1 = omega arith in
       in_leg_lem b u B i BootToUpdate hi (omega arith) s (subst (λ (a : ℕ). AfterMoves g f.update a) n h) e₁ e₂ q
@@ -232,21 +232,21 @@ module _ (g : Geometry) (G : Limits g) (k : ℕ) where
       by (yes l) =
           let n : suc (3 * i + 2) ≡ 3 * suc i + 0 = omega arith in
           let r : firmware g - suc i ≡ suc (firmware g - suc (suc i)) = omega arith in
-          let w : e ≡ 0 + sectorsFrom g k (suc i) (suc (firmware g - suc (suc i))) + closing_of g k B = q ∙ ap (λ (j : ℕ). 0 + sectorsFrom g k (suc i) j + closing_of g k B) r in
+          let w : e ≡ 0 + sectors_from g k (suc i) (suc (firmware g - suc (suc i))) + closing_of g k B = q ∙ ap (λ (j : ℕ). 0 + sectors_from g k (suc i) j + closing_of g k B) r in
           in_leg_lem b u B (suc i) UpdateToSwap l (omega arith) s (subst (λ (a : ℕ). AfterMoves g f.update a) n h) e₁ e₂ (omega (arith, w))
       by (no l) =
           let n : suc (3 * i + 2) ≡ 3 * firmware g = omega arith in
           let r : firmware g - suc i ≡ 0 = omega arith in
-          let w : e ≡ 0 + sectorsFrom g k (suc i) 0 + closing_of g k B = q ∙ ap (λ (j : ℕ). 0 + sectorsFrom g k (suc i) j + closing_of g k B) r in
+          let w : e ≡ 0 + sectors_from g k (suc i) 0 + closing_of g k B = q ∙ ap (λ (j : ℕ). 0 + sectors_from g k (suc i) j + closing_of g k B) r in
           at_last b u B s (shown_every g f.update (some_firmware g G) (subst (λ (a : ℕ). AfterMoves g f.update a) n h)) e₁ e₂ (omega (arith, w))
 
   -- the first operation of a leg is its erase, the second is none
-  leg_erases : (i : ℕ) (leg : Leg) → legsFrom g k i leg 0 ≡ at g k (target leg) i + legsFrom g k i leg 1
+  leg_erases : (i : ℕ) (leg : Leg) → legs_from g k i leg 0 ≡ at g k (target leg) i + legs_from g k i leg 1
   leg_erases i UpdateToSwap = refl
   leg_erases i BootToUpdate = refl
   leg_erases i SwapToBoot = omega arith
 
-  leg_copies : (i : ℕ) (leg : Leg) → legsFrom g k i leg 1 ≡ legsFrom g k i leg 2
+  leg_copies : (i : ℕ) (leg : Leg) → legs_from g k i leg 1 ≡ legs_from g k i leg 2
   leg_copies i UpdateToSwap = refl
   leg_copies i BootToUpdate = refl
   leg_copies i SwapToBoot = refl
@@ -280,13 +280,13 @@ module _ (g : Geometry) (G : Limits g) (k : ℕ) where
 
   one_step : (job : Job) (f : Flash) (p e : ℕ) → Trail job f p e → Steps job f p e
   one_step job f zero e (in_leg_lem b u B i leg hi hp s h e₁ e₂ q) =
-      steps (Erase (target leg) (sector_number i)) (legsFrom g k i leg 1 + sectorsFrom g k (suc i) (firmware g - suc i) + closing_of g k B)
+      steps (Erase (target leg) (sector_number i)) (legs_from g k i leg 1 + sectors_from g k (suc i) (firmware g - suc i) + closing_of g k B)
       (next_leg B i leg hi f s h e₁ e₂ 0) (omega (arith, leg_erases i leg))
       (written B i leg hi f s h e₁ e₂ 1 _ (erased g.size) (length_erased g.size) (omega arith) refl)
   one_step job f (suc zero) e (in_leg_lem b u B i leg hi hp s h e₁ e₂ q) =
       steps (Copy leg (sector_number i)) e (next_leg B i leg hi f s h e₁ e₂ 1) (omega arith)
       (written B i leg hi f s h e₁ e₂ 2 e (get g (source leg) i f) (sized g f s (source leg) i hi) (omega arith)
-      (q ∙ ap (λ (n : ℕ). n + sectorsFrom g k (suc i) (firmware g - suc i) + closing_of g k B) (leg_copies i leg)))
+      (q ∙ ap (λ (n : ℕ). n + sectors_from g k (suc i) (firmware g - suc i) + closing_of g k B) (leg_copies i leg)))
   one_step job f (suc (suc zero)) e (in_leg_lem b u B i leg hi hp s h e₁ e₂ q) =
       let w : moved (suc (leg_moves leg)) ≡ next_flag leg = sym (next_moved leg) in
       steps (WriteFlag (sector_number i) (next_flag leg)) e (next_leg B i leg hi f s h e₁ e₂ 2) (omega arith)
@@ -322,7 +322,7 @@ module _ (g : Geometry) (G : Limits g) (k : ℕ) where
   nothing_next : (job : Job) (f : Flash) → next_operation job g 0 f ≡ Nothing → Begins job f
   nothing_next job f e = record { most = 0; bounded = omega arith; trail = at_end e }
 
-  leg_part : (i : ℕ) (leg : Leg) → legsFrom g k i leg 0 ≤ legsFrom g k i UpdateToSwap 0
+  leg_part : (i : ℕ) (leg : Leg) → legs_from g k i leg 0 ≤ legs_from g k i UpdateToSwap 0
   leg_part i UpdateToSwap = omega arith
   leg_part i BootToUpdate = omega arith
   leg_part i SwapToBoot = omega arith
@@ -334,7 +334,7 @@ module _ (g : Geometry) (G : Limits g) (k : ℕ) where
         let r : firmware g - i ≡ suc (firmware g - suc i) = omega arith in
         let n : i + suc (firmware g - suc i) ≡ firmware g = omega arith in
         record {
-          most = legsFrom g k i leg 0 + sectorsFrom g k (suc i) (firmware g - suc i) + closing_of g k B;
+          most = legs_from g k i leg 0 + sectors_from g k (suc i) (firmware g - suc i) + closing_of g k B;
           bounded = omega (arith, leg_part i leg, few g G k B i (suc (firmware g - suc i)) n);
           trail = in_leg_lem b u B i leg hi (omega arith) s (moves_leg g f.update i leg v) e₁ e₂ refl;
         }

@@ -46,8 +46,8 @@ pub record PowerUpCase : Type 0 where
   pub row_after : List ℕ
   pub total_after : ℕ
 
-abbrev pub with_budget_lem : Flash → ℕ → List ℕ → ℕ → Outcome → ℕ → List ℕ → ℕ → PowerUpCase
-with_budget_lem f b row t o n row' t' =
+abbrev pub with_budget : Flash → ℕ → List ℕ → ℕ → Outcome → ℕ → List ℕ → ℕ → PowerUpCase
+with_budget f b row t o n row' t' =
     record { flash = f; budget = b; row = row; total = t; outcome = o; count = n; row_after = row'; total_after = t' }
 
 pub record PowerUpCaseHolds (c : PowerUpCase) : Type 0 where
@@ -66,27 +66,27 @@ full c = 5 ∷ 0 ∷ 0 ∷ 0 ∷ 0 ∷ 0 ∷ c ∷ []
 abbrev pub power_up_cases : List PowerUpCase
 power_up_cases =
     -- a whole update erases each sector of BOOT and of UPDATE once, trailers included, and SWAP twice; a fallback no trailer
-    with_budget_lem ready 100 zeros 0 runs_on_test 21 (1 ∷ 1 ∷ 1 ∷ 1 ∷ 1 ∷ 1 ∷ 2 ∷ []) 8
-    ∷ with_budget_lem on_test 100 zeros 0 runs_fallen_back 19 (1 ∷ 1 ∷ 0 ∷ 1 ∷ 1 ∷ 0 ∷ 2 ∷ []) 6
+    with_budget ready 100 zeros 0 runs_on_test 21 (1 ∷ 1 ∷ 1 ∷ 1 ∷ 1 ∷ 1 ∷ 2 ∷ []) 8
+    ∷ with_budget on_test 100 zeros 0 runs_fallen_back 19 (1 ∷ 1 ∷ 0 ∷ 1 ∷ 1 ∷ 0 ∷ 2 ∷ []) 6
     -- the fourth operation is the second erase: a budget of three does not count it, a budget of four does
-    ∷ with_budget_lem ready 3 zeros 0 cut 3 (0 ∷ 0 ∷ 0 ∷ 0 ∷ 0 ∷ 0 ∷ 1 ∷ []) 1
-    ∷ with_budget_lem ready 4 zeros 0 cut 4 (0 ∷ 0 ∷ 0 ∷ 1 ∷ 0 ∷ 0 ∷ 1 ∷ []) 2
-    ∷ with_budget_lem ready 0 zeros 0 cut 0 zeros 0
+    ∷ with_budget ready 3 zeros 0 cut 3 (0 ∷ 0 ∷ 0 ∷ 0 ∷ 0 ∷ 0 ∷ 1 ∷ []) 1
+    ∷ with_budget ready 4 zeros 0 cut 4 (0 ∷ 0 ∷ 0 ∷ 1 ∷ 0 ∷ 0 ∷ 1 ∷ []) 2
+    ∷ with_budget ready 0 zeros 0 cut 0 zeros 0
     -- an update that is turned down: the erase of UPDATE's trailer
-    ∷ with_budget_lem not_newer 100 zeros 0 runs 1 (0 ∷ 0 ∷ 0 ∷ 0 ∷ 0 ∷ 1 ∷ 0 ∷ []) 1
+    ∷ with_budget not_newer 100 zeros 0 runs 1 (0 ∷ 0 ∷ 0 ∷ 0 ∷ 0 ∷ 1 ∷ 0 ∷ []) 1
     -- no operation, and no count
-    ∷ with_budget_lem resting 100 zeros 0 runs 0 zeros 0
+    ∷ with_budget resting 100 zeros 0 runs 0 zeros 0
     -- a row of six; a total that is wrong; both wrong
-    ∷ with_budget_lem ready 100 (0 ∷ 0 ∷ 0 ∷ 0 ∷ 0 ∷ 0 ∷ []) 0 (refusal (numbered 1 0)) 0 (0 ∷ 0 ∷ 0 ∷ 0 ∷ 0 ∷ 0 ∷ []) 0
-    ∷ with_budget_lem ready 100 zeros 9 (refusal (numbered 19 0)) 0 zeros 9
-    ∷ with_budget_lem ready 100 (0 ∷ 0 ∷ 0 ∷ 0 ∷ 0 ∷ 0 ∷ []) 9 (refusal (numbered 1 0)) 0 (0 ∷ 0 ∷ 0 ∷ 0 ∷ 0 ∷ 0 ∷ []) 9
+    ∷ with_budget ready 100 (0 ∷ 0 ∷ 0 ∷ 0 ∷ 0 ∷ 0 ∷ []) 0 (refusal (numbered 1 0)) 0 (0 ∷ 0 ∷ 0 ∷ 0 ∷ 0 ∷ 0 ∷ []) 0
+    ∷ with_budget ready 100 zeros 9 (refusal (numbered 19 0)) 0 zeros 9
+    ∷ with_budget ready 100 (0 ∷ 0 ∷ 0 ∷ 0 ∷ 0 ∷ 0 ∷ []) 9 (refusal (numbered 1 0)) 0 (0 ∷ 0 ∷ 0 ∷ 0 ∷ 0 ∷ 0 ∷ []) 9
     -- a count as high as may be, which two erases take to 4,294,967,295; and one higher
-    ∷ with_budget_lem ready 100 (full 4294967293) 4294967298 runs_on_test 21 (6 ∷ 1 ∷ 1 ∷ 1 ∷ 1 ∷ 1 ∷ 4294967295 ∷ []) 4294967306
-    ∷ with_budget_lem ready 100 (full 4294967294) 4294967299 (refusal (numbered 20 0)) 0 (full 4294967294) 4294967299
+    ∷ with_budget ready 100 (full 4294967293) 4294967298 runs_on_test 21 (6 ∷ 1 ∷ 1 ∷ 1 ∷ 1 ∷ 1 ∷ 4294967295 ∷ []) 4294967306
+    ∷ with_budget ready 100 (full 4294967294) 4294967299 (refusal (numbered 20 0)) 0 (full 4294967294) 4294967299
     -- 10 comes after 19 and 20
-    ∷ with_budget_lem spoiled 100 zeros 9 (refusal (numbered 19 0)) 0 zeros 9
-    ∷ with_budget_lem spoiled 100 (full 4294967294) 4294967299 (refusal (numbered 20 0)) 0 (full 4294967294) 4294967299
-    ∷ with_budget_lem spoiled 100 zeros 0 (refusal (numbered 10 0)) 0 zeros 0
+    ∷ with_budget spoiled 100 zeros 9 (refusal (numbered 19 0)) 0 zeros 9
+    ∷ with_budget spoiled 100 (full 4294967294) 4294967299 (refusal (numbered 20 0)) 0 (full 4294967294) 4294967299
+    ∷ with_budget spoiled 100 zeros 0 (refusal (numbered 10 0)) 0 zeros 0
     ∷ []
 
 -- ---- arm

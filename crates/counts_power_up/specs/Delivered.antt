@@ -5,7 +5,7 @@ use Rattle.numbers.specs.Answer.{numbered}
 use Rattle.numbers.specs.GivenBack.{row_number, reason_of}
 use Rattle.flash.specs.Sizes.{geometry}
 use Rattle.flash.specs.Buffers.{Flash}
-use Rattle.exchange.specs.PowerUp as power-up
+use Rattle.exchange.specs.PowerUp as power_up_rules
 use Rattle.exchange.specs.PowerUp.{refusal}
 use Rattle.image.specs.Verdict.{check_of}
 use Rattle.power_up.specs.Delivered.{outcome_of}
@@ -15,15 +15,15 @@ use Rattle.counts_power_up.specs.declared.CountedOutcome.TheVariants.{PowerUp, C
 use Rattle.counts_power_up.specs.declared.CountedAnswer.{CountedAnswer}
 
 -- Power-up's own outcomes, and the two refusals of row and total.
-abbrev pub counted_outcome_of : CountedOutcome → power-up.Outcome
+abbrev pub counted_outcome_of : CountedOutcome → power_up_rules.Outcome
 counted_outcome_of (PowerUp o) = outcome_of o
 counted_outcome_of (Counts r) = refusal (numbered (row_number r) 0)
 
 -- What a counted power-up answers and leaves: of its answer all but the total is power-up's.
-abbrev pub own_part : CountedAnswer → Flash → power-up.PowerUp
+abbrev pub own_part : CountedAnswer → Flash → power_up_rules.PowerUp
 own_part a f = record { outcome = counted_outcome_of a.outcome; reason = reason_of a.reason; count = a.count; flash = f }
 
-abbrev pub counted_answered : CountedAnswer → Flash → List ℕ → Counted power-up.PowerUp
+abbrev pub counted_answered : CountedAnswer → Flash → List ℕ → Counted power_up_rules.PowerUp
 counted_answered a f row = record { own = own_part a f; row = row; total = a.total }
 
 -- The contract of `power_up_counted`: asked for this many sectors of this size, lent the flash f and the row, and handed the budget and the

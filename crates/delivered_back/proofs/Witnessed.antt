@@ -79,12 +79,12 @@ module _ (t : Torn) (len : length t.bytes ≡ 256) (budget : ℕ) (le : 23 ≤ b
       let r : Reached check_of x three s.flash t budget = finish_reached check_of x three s.flash (reads_firmware three) starts t len budget enough in
       let c = every_list_counted x three s.flash 0 s o long summed (rough_list three t budget) room r.allowed in
       let q = read three (Goes x three s.flash) (λ y. ¬ Finished x three y) (λ y i not. (i not).1.fit) (goes_on x three s.flash) c.calls s (λ not. (0, o)) long c.allows in
-      let three-calls : length c.calls ≡ 3 = sym (length-map c.calls ofCounts.ruled) ∙ ap length c.are in
+      let three_calls : length c.calls ≡ 3 = sym (length-map c.calls ofCounts.ruled) ∙ ap length c.are in
       record {
         called = c;
         finished = subst (λ (y : Flash). Finished x three y) (sym c.leaves) r.finished;
         counts = q.counts;
-        few = λ p. subst (λ (n : ℕ). erases_since three p s c.calls ≤ 2 * n) three-calls (q.few p);
+        few = λ p. subst (λ (n : ℕ). erases_since three p s c.calls ≤ 2 * n) three_calls (q.few p);
       }
 
   counted_back : CountedCallsBack t budget

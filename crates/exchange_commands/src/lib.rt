@@ -5,7 +5,7 @@ ghost use Rattle.std.specs.Prelude.{◌≡◌};
 ghost use Rattle.numbers.specs.Answer.{gives};
 ghost use Rattle.flash.specs.Sizes.{geometry, geometry_answer};
 ghost use Rattle.flash.specs.Sectors.{Partition};
-ghost use Rattle.flash.specs.Buffers.{flash, lent, Shaped};
+ghost use Rattle.flash.specs.Buffers.{flash, Shaped};
 ghost use Rattle.flash_flags.specs.SectorFlags.{flags_at};
 ghost use Rattle.exchange.specs.Commands.{command, may_arm, confirm_flags, may_confirm, arm_command, confirm_command};
 ghost use Rattle.exchange_commands.specs.Numbers.{commanded};

@@ -11,7 +11,7 @@ use header_tags::Tag;
 const FIRST_TAG: usize = header_tags::FIRST_TAG;
 
 // A lent header, and the place where the next call looks.
-#[derive(Drop)]
+#[derive(Clone, Copy)]
 pub struct TagWalker<'a> {
     pub header: &'a [u8],
     pub at: usize,

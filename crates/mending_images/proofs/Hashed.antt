@@ -170,6 +170,6 @@ module _ (g : Geometry) (f : Flash) (S : Shaped g f) (image : OldImage) (k : Mar
     pub digest_compared : {d s : List ℕ} {b : Bool} → d ≡ sha256 (covered_by c (old_bytes g image k f))
         → s ≡ part (c.digest + 4) 32 (old_sector g image k f 0) → (b ≡ true → d ≡ s) → (d ≡ s → b ≡ true) → b ≡ has_digest (old_bytes g image k f) c
     unfolding has_digest part
-    digest_compared {d} {s} {b} ed es yes-is is-yes =
+    digest_compared {d} {s} {b} ed es yes_is is_yes =
         let q : s ≡ take 32 (drop (c.digest + 4) (old_bytes g image k f)) = es ∙ in_first (c.digest + 4) 32 (omega (arith, L.digest)) in
-        same_is _ _ b (λ e. sym ed ∙ yes-is e ∙ q) (λ e. is-yes (ed ∙ e ∙ sym q))
+        same_is _ _ b (λ e. sym ed ∙ yes_is e ∙ q) (λ e. is_yes (ed ∙ e ∙ sym q))

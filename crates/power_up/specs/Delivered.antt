@@ -3,7 +3,7 @@ use Rattle.std.specs.Prelude.{◌≡◌, ℕ}
 use Rattle.numbers.specs.GivenBack.{power_up_says, reason_of}
 use Rattle.flash.specs.Sizes.{geometry}
 use Rattle.flash.specs.Buffers.{Flash}
-use Rattle.exchange.specs.PowerUp as power-up
+use Rattle.exchange.specs.PowerUp as power_up_rules
 use Rattle.exchange.specs.PowerUp.{PowerUp, refusal, cut, runs, runs_on_test, runs_fallen_back, power_up}
 use Rattle.image.specs.Verdict.{check_of}
 use Rattle.power_up.specs.declared.Outcome.{Outcome}
@@ -11,7 +11,7 @@ use Rattle.power_up.specs.declared.Outcome.TheVariants.{Refused, Cut, Run, RunOn
 use Rattle.power_up.specs.declared.PowerUpAnswer.{PowerUpAnswer}
 
 -- "Power-up": its outcomes.
-abbrev pub outcome_of : Outcome → power-up.Outcome
+abbrev pub outcome_of : Outcome → power_up_rules.Outcome
 outcome_of (Refused r) = refusal (power_up_says r)
 outcome_of Cut = cut
 outcome_of Run = runs

@@ -10,7 +10,7 @@ use lib.Dec.{eqb, ltb}
 use borrow.Author.Tests.{lt-ltb, le-leb, eq-eqb, ltb-true, ltb-false, eqb-true}
 use Rattle.numbers.specs.Every.{Every}
 use Rattle.io.specs.Digits.{hex_digit_ascii, last_digits}
-use Rattle.listing_lines.specs.Lines.{digit_count, decimal as decimalText}
+use Rattle.listing_lines.specs.Lines.{digit_count, decimal as decimal_text}
 use Rattle.listing_lines.proofs.Numbers.{fewest_digits}
 use Rattle.release_digits.specs.Digits.{is_digit, all_digits, number_from, decimal, decimal_up_to, hex_digit, all_hex, hex_digits, hex_bytes}
 use Rattle.numbers.proofs.Tests.{first_of, second_of}
@@ -56,20 +56,20 @@ written_length : (b k n : ℕ) → length (last_digits b k n) ≡ k
 written_length b zero n = refl
 written_length b (suc k) n = simp (length-append, written_length b k (n / b)) (omega arith)
 
-pub text_digits : (n : ℕ) → all_digits (decimalText n) ≡ true
-unfolding decimalText
+pub text_digits : (n : ℕ) → all_digits (decimal_text n) ≡ true
+unfolding decimal_text
 text_digits n = written_digits (digit_count n) n
 
-pub text_number : (n : ℕ) → decimal (decimalText n) ≡ n
-unfolding decimalText
+pub text_number : (n : ℕ) → decimal (decimal_text n) ≡ n
+unfolding decimal_text
 text_number n = written_number (digit_count n) n (fewest_digits n).1
 
-text_some : (n : ℕ) → 0 < length (decimalText n)
-unfolding decimalText
+text_some : (n : ℕ) → 0 < length (decimal_text n)
+unfolding decimal_text
 text_some n = omega (arith, written_length 10 (digit_count n) n, (fewest_digits n).0)
 
-pub text_taken : (most n : ℕ) → n ≤ most → decimal_up_to most (decimalText n) ≡ true
-text_taken most n le = both (lt-ltb 0 (length (decimalText n)) (text_some n)) (both (text_digits n) (rw (text_number n) (le-leb n most le)))
+pub text_taken : (most n : ℕ) → n ≤ most → decimal_up_to most (decimal_text n) ≡ true
+text_taken most n le = both (lt-ltb 0 (length (decimal_text n)) (text_some n)) (both (text_digits n) (rw (text_number n) (le-leb n most le)))
 
 -- ---- hexadecimal digits
 

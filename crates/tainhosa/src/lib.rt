@@ -3,7 +3,7 @@
 #![tactic(auto)]
 
 ghost use Rattle.std.specs.Prelude.{◌≡◌};
-ghost use Rattle.flash.specs.Buffers.{flash, lent};
+ghost use Rattle.flash.specs.Buffers.{flash};
 ghost use Rattle.tainhosa.specs.Digest.{after_digest, sha256_answer};
 ghost use Rattle.c_headers.specs.Rows.{values_from};
 ghost use Rattle.tainhosa.specs.Headers.{after_header, given, read_answer, check_answer, firmware_answer, after_write, write_answer};
