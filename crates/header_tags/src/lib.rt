@@ -85,16 +85,31 @@ fn tag_at(h: &[u8], at: usize) -> Result<Option<Tag>, WalkRefusal>
     }))
 }
 
-// Reads the tag at a place, or after the padding there. None is the end.
-pub fn read_tag(h: &[u8], at: usize) -> Result<Option<Tag>, WalkRefusal>
+// Goes over the padding from a place, and reads the tag after it. A loop, so that long padding takes no stack.
+#[cycle(read_tag_skip_padding)]
+pub fn skip_padding(h: &[u8], at: usize) -> Result<Option<Tag>, WalkRefusal>
     ensures { item_of result ≡ next_item h.now at }
 {
     for place in at..h.len() {
         if h[place] != PADDING {
-            return tag_at(h, place);
+            return read_tag(h, place);
         }
     }
-    Err(WalkRefusal::NoEnd(h.len()))
+    read_tag(h, h.len())
+}
+
+// Reads the tag at a place, or after the padding there. None is the end.
+#[cycle(read_tag_skip_padding)]
+pub fn read_tag(h: &[u8], at: usize) -> Result<Option<Tag>, WalkRefusal>
+    ensures { item_of result ≡ next_item h.now at }
+{
+    if h.len() <= at {
+        return Err(WalkRefusal::NoEnd(h.len()));
+    }
+    if h[at] == PADDING {
+        return skip_padding(h, at + 1);
+    }
+    tag_at(h, at)
 }
 
 // The same in a lent buffer, whose first bytes are the header.
