@@ -4,13 +4,12 @@ use mathlib.Core.List.{List}
 use Prim.Native.Nat.{ℕ, suc, ◌+◌, ◌-◌, ◌≤◌, ◌<◌}
 use native.Mathlib.Omega.{arith}
 use lib.ListN.{length}
+use Rattle.std.specs.Prelude.{Option, Some, None}
 use Rattle.flash.specs.declared.Geometry.{Geometry}
 use Rattle.flash.specs.Buffers.{Flash, flash, Shaped}
 use Rattle.flash_flags.specs.Front.{WellFormed}
 use Rattle.exchange.specs.declared.Job.{Job}
 use Rattle.exchange.specs.declared.Operation.{Operation}
-use Rattle.exchange.specs.declared.Next.{Next}
-use Rattle.exchange.specs.declared.Next.TheVariants.{Do, Nothing}
 use Rattle.exchange.specs.Operations.{perform, phase_after}
 use Rattle.exchange.specs.Order.{next_operation, perform_next, Step, step, Run, run}
 use Rattle.exchange.proofs.Runs.{run_none, run_some}
@@ -49,38 +48,38 @@ module _ (job : Job) (g : Geometry) (budget : ℕ) where
 
     pub flash_is : f' ≡ perform_next g r.next f
     unfolding step
-    flash_is = ap (λ (x : Step). x.flash) s ∙ ap (λ (m : Next). perform_next g m f) (sym next_is)
+    flash_is = ap (λ (x : Step). x.flash) s ∙ ap (λ (m : Option Operation). perform_next g m f) (sym next_is)
 
     -- a turn
-    pub run_on : (o : Operation) → r.next ≡ Do o → r.progress ≡ progress_scanned g f'.update r.next at → 0 < at.left → at.left ≤ budget
+    pub run_on : (o : Operation) → r.next ≡ Some o → r.progress ≡ progress_scanned g f'.update r.next at → 0 < at.left → at.left ≤ budget
         → run_left job g budget r.progress f' ≡ run_left job g budget at f
     run_on o e q h b =
         let k : at.left ≡ suc (at.left - 1) = omega arith in
-        let d : r.progress ≡ progress_scanned g f'.update (Do o) at = q ∙ ap (λ (t : Next). progress_scanned g f'.update t at) e in
-        let x : f' ≡ perform g o f = flash_is ∙ ap (λ (t : Next). perform_next g t f) e in
+        let d : r.progress ≡ progress_scanned g f'.update (Some o) at = q ∙ ap (λ (t : Option Operation). progress_scanned g f'.update t at) e in
+        let x : f' ≡ perform g o f = flash_is ∙ ap (λ (t : Option Operation). perform_next g t f) e in
         let w = run job g (at.left - 1) (phase_after o) (perform g o f) in
         let c : budget - (at.left - 1) + w.count ≡ budget - at.left + suc w.count = omega arith in
         ap (λ (y : Progress). run_left job g budget y f') d
-        ∙ ap (λ (z : Flash). run_left job g budget (progress_scanned g f'.update (Do o) at) z) x
+        ∙ ap (λ (z : Flash). run_left job g budget (progress_scanned g f'.update (Some o) at) z) x
         ∙ ap (λ (y : ℕ). record { count = y; phase = w.phase; flash = w.flash }) c
         ∙ ap (λ (y : Run). record { count = budget - at.left + y.count; phase = y.phase; flash = y.flash })
         (sym (ap (λ (y : ℕ). run job g y at.phase f) k ∙ run_some job g (at.left - 1) at.phase f o (sym next_is ∙ e)))
 
-    pub left_on : (o : Operation) → r.next ≡ Do o → r.progress ≡ progress_scanned g f'.update r.next at → r.progress.left ≡ at.left - 1
-    left_on o e q = ap (λ (x : Progress). x.left) (q ∙ ap (λ (t : Next). progress_scanned g f'.update t at) e)
+    pub left_on : (o : Operation) → r.next ≡ Some o → r.progress ≡ progress_scanned g f'.update r.next at → r.progress.left ≡ at.left - 1
+    left_on o e q = ap (λ (x : Progress). x.left) (q ∙ ap (λ (t : Option Operation). progress_scanned g f'.update t at) e)
 
-    pub current_on : (o : Operation) → r.next ≡ Do o → r.progress ≡ progress_scanned g f'.update r.next at → Shaped g f → Current g f.update at → Current g f'.update r.progress
+    pub current_on : (o : Operation) → r.next ≡ Some o → r.progress ≡ progress_scanned g f'.update r.next at → Shaped g f → Current g f.update at → Current g f'.update r.progress
     unfolding step
     current_on o e q S k = record {
       formed = rw (ap (λ (x : Step). x.flash) s) (steps_keep_form job g at.phase f S k.formed);
-      scanned = ap (λ (x : Progress). x.front) (q ∙ ap (λ (t : Next). progress_scanned g f'.update t at) e);
+      scanned = ap (λ (x : Progress). x.front) (q ∙ ap (λ (t : Option Operation). progress_scanned g f'.update t at) e);
     }
 
     -- nothing is next
-    pub run_over : r.next ≡ Nothing → 0 < at.left → (ran budget at f' ≡ run_left job g budget at f) × (f' ≡ f)
+    pub run_over : r.next ≡ None → 0 < at.left → (ran budget at f' ≡ run_left job g budget at f) × (f' ≡ f)
     run_over e h =
         let k : at.left ≡ suc (at.left - 1) = omega arith in
-        let x : f' ≡ f = flash_is ∙ ap (λ (t : Next). perform_next g t f) e in
+        let x : f' ≡ f = flash_is ∙ ap (λ (t : Option Operation). perform_next g t f) e in
         let c : budget - at.left ≡ budget - at.left + 0 = omega arith in (
           ap₂ (λ (y : ℕ) (z : Flash). record { count = y; phase = at.phase; flash = z }) c x
               ∙ ap (λ (y : Run). record { count = budget - at.left + y.count; phase = y.phase; flash = y.flash })
