@@ -9,7 +9,7 @@ ghost use Rattle.output.specs.Puts.{Puts};
 
 use header_reader::Header;
 use header_tags::HEADER_LENGTH;
-use numbers::WriteOutcome;
+use numbers::WriteRefusal;
 use output::put;
 
 // Where the digest's tag begins in a header that the writer makes: behind the front and the tags of version and timestamp.
@@ -68,18 +68,18 @@ fn put_end(out: &mut [u8], at: usize)
 }
 
 // Writes a header into the first 256 bytes of a lent output, and no other. A refusal changes no byte.
-pub fn write_header(out: &mut [u8], v: Header) -> WriteOutcome
+pub fn write_header(out: &mut [u8], v: Header) -> Result<(), WriteRefusal>
     ensures { write (writer_answer result) out.new ≡ write_header v out.old }
 {
     if out.len() < HEADER_LENGTH {
-        return WriteOutcome::TooShort;
+        return Err(WriteRefusal::TooShort);
     }
     if v.size == 0 {
-        return WriteOutcome::WrongSize;
+        return Err(WriteRefusal::WrongSize);
     }
     let tags_at = put_front(out, v);
     let hint_at = put_required(out, tags_at, v);
     let end_at = put_hint(out, hint_at, v);
     put_end(out, end_at);
-    WriteOutcome::Written
+    Ok(())
 }
