@@ -12,6 +12,7 @@ use Rattle.flash.specs.Sizes.{firmware, Limits}
 use Rattle.flash.specs.Sectors.{sector_number}
 use Rattle.flash.proofs.Checked.{sectors_are, some_firmware}
 use Rattle.flash_status.specs.StatusBytes.{boot_status_at, update_status_at}
+use Rattle.flash_flags.specs.declared.Flag.{Flag}
 use Rattle.flash_flags.specs.declared.Flag.TheVariants.{Untouched, Saved, Moved, Exchanged}
 use Rattle.flash_flags.specs.declared.Leg.{Leg}
 use Rattle.flash_flags.specs.declared.Leg.TheVariants.{UpdateToSwap, BootToUpdate, SwapToBoot}

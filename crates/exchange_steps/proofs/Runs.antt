@@ -1,10 +1,11 @@
 -- The loop that repeats the step, and the lengths that it keeps.
-use mathlib.Core.Path.{◌≡◌, sym, ap, ap₂, ◌∙◌}
+use mathlib.Core.Path.{◌≡◌, refl, sym, ap, ap₂, ◌∙◌}
+use mathlib.Core.Bool.{true, false, true≢false}
 use mathlib.Core.List.{List}
 use Prim.Native.Nat.{ℕ, suc, ◌+◌, ◌-◌, ◌≤◌, ◌<◌}
 use native.Mathlib.Omega.{arith}
 use lib.ListN.{length}
-use Rattle.std.specs.Prelude.{Option, Some, None}
+use Rattle.std.specs.Prelude.{Option, Some, None, is_some}
 use Rattle.flash.specs.declared.Geometry.{Geometry}
 use Rattle.flash.specs.Buffers.{Flash, flash, Shaped}
 use Rattle.flash_flags.specs.Front.{WellFormed}
@@ -22,6 +23,15 @@ use Rattle.exchange_steps.specs.Inner.{stepped, ran}
 pub shaped_kept : (g : Geometry) (b u s b' u' s' : List ℕ) → Shaped g (flash b u s) → length b' ≡ length b → length u' ≡ length u → length s' ≡ length s
     → Shaped g (flash b' u' s')
 shaped_kept g b u s b' u' s' h p q r = record { limits = h.limits; boot = p ∙ h.boot; update = q ∙ h.update; swap = r ∙ h.swap }
+
+-- whether a step did an operation
+pub did : (x : Option Operation) → is_some x ≡ true → (o : Operation) × (x ≡ Some o)
+did (Some o) e = (o, refl)
+did None e = absurd (true≢false (sym e))
+
+pub did_none : (x : Option Operation) → is_some x ≡ false → x ≡ None
+did_none (Some o) e = absurd (true≢false e)
+did_none None e = refl
 
 -- after a budget has come down to `left`: the operations before, and the run that is left
 abbrev pub run_left : Job → Geometry → ℕ → Progress → Flash → Run
@@ -42,16 +52,16 @@ module _ (job : Job) (g : Geometry) (budget : ℕ) where
       (ap (λ (x : Progress). run_left job g budget x f) e ∙ ap (λ (k : ℕ). record { count = k; phase = w.phase; flash = w.flash }) z, rw e (omega arith))
 
   module _ (at : Progress) (f f' : Flash) (r : StepAnswer) (s : stepped r f' ≡ step job g at.phase f) where
-    pub next_is : r.next ≡ next_operation job g at.phase f
+    pub next_is : r.done ≡ next_operation job g at.phase f
     unfolding step
     next_is = ap (λ (x : Step). x.next) s
 
-    pub flash_is : f' ≡ perform_next g r.next f
+    pub flash_is : f' ≡ perform_next g r.done f
     unfolding step
     flash_is = ap (λ (x : Step). x.flash) s ∙ ap (λ (m : Option Operation). perform_next g m f) (sym next_is)
 
     -- a turn
-    pub run_on : (o : Operation) → r.next ≡ Some o → r.progress ≡ progress_scanned g f'.update r.next at → 0 < at.left → at.left ≤ budget
+    pub run_on : (o : Operation) → r.done ≡ Some o → r.progress ≡ progress_scanned g f'.update r.done at → 0 < at.left → at.left ≤ budget
         → run_left job g budget r.progress f' ≡ run_left job g budget at f
     run_on o e q h b =
         let k : at.left ≡ suc (at.left - 1) = omega arith in
@@ -65,10 +75,10 @@ module _ (job : Job) (g : Geometry) (budget : ℕ) where
         ∙ ap (λ (y : Run). record { count = budget - at.left + y.count; phase = y.phase; flash = y.flash })
         (sym (ap (λ (y : ℕ). run job g y at.phase f) k ∙ run_some job g (at.left - 1) at.phase f o (sym next_is ∙ e)))
 
-    pub left_on : (o : Operation) → r.next ≡ Some o → r.progress ≡ progress_scanned g f'.update r.next at → r.progress.left ≡ at.left - 1
+    pub left_on : (o : Operation) → r.done ≡ Some o → r.progress ≡ progress_scanned g f'.update r.done at → r.progress.left ≡ at.left - 1
     left_on o e q = ap (λ (x : Progress). x.left) (q ∙ ap (λ (t : Option Operation). progress_scanned g f'.update t at) e)
 
-    pub current_on : (o : Operation) → r.next ≡ Some o → r.progress ≡ progress_scanned g f'.update r.next at → Shaped g f → Current g f.update at → Current g f'.update r.progress
+    pub current_on : (o : Operation) → r.done ≡ Some o → r.progress ≡ progress_scanned g f'.update r.done at → Shaped g f → Current g f.update at → Current g f'.update r.progress
     unfolding step
     current_on o e q S k = record {
       formed = rw (ap (λ (x : Step). x.flash) s) (steps_keep_form job g at.phase f S k.formed);
@@ -76,7 +86,7 @@ module _ (job : Job) (g : Geometry) (budget : ℕ) where
     }
 
     -- nothing is next
-    pub run_over : r.next ≡ None → 0 < at.left → (ran budget at f' ≡ run_left job g budget at f) × (f' ≡ f)
+    pub run_over : r.done ≡ None → 0 < at.left → (ran budget at f' ≡ run_left job g budget at f) × (f' ≡ f)
     run_over e h =
         let k : at.left ≡ suc (at.left - 1) = omega arith in
         let x : f' ≡ f = flash_is ∙ ap (λ (t : Option Operation). perform_next g t f) e in

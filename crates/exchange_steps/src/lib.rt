@@ -11,7 +11,7 @@ ghost use Rattle.exchange.specs.Order.{run};
 ghost use Rattle.exchange_front.specs.Carried.{Current};
 ghost use Rattle.exchange_steps.specs.Inner.{SectorWithin, ran, Steps};
 
-use exchange::{Area, Job, Next, Operation};
+use exchange::{Area, Job, Operation};
 use exchange_front::Progress;
 use flash::{Geometry, SectorNumber};
 use flash_flags::Leg;
@@ -71,15 +71,15 @@ pub fn do_operation(g: Geometry, op: Operation, boot: &mut [u8], update: &mut [u
         Operation::EraseUpdateTrailer => {
             flash_sectors::erase_sector(g, update, SectorNumber(g.firmware_sectors()))
         }
-        Operation::WriteBootStatus(s) => flash_status::write_boot_status(g, boot, s),
-        Operation::WriteUpdateStatus(s) => flash_status::write_update_status(g, update, s),
+        Operation::WriteBootStatus(s) => flash_status::write_status(g, boot, s),
+        Operation::WriteUpdateStatus(s) => flash_status::write_status(g, update, s),
     }
 }
 
 // The operation that a step did, if one was next, and what it carries on.
 #[derive(Clone, Copy)]
 pub struct StepAnswer {
-    pub next: Next,
+    pub done: Option<Operation>,
     pub progress: Progress,
 }
 
@@ -96,16 +96,16 @@ pub fn do_next(
     ensures { Steps job g at (flash boot.old update.old swap.old)
         result (flash boot.new update.new swap.new) }
 {
-    let next = exchange_front::find_next(g, job, at, boot, update);
-    match next {
-        Next::Do(op) => {
-            do_operation(g, op, boot, update, swap);
-            StepAnswer {
-                next,
-                progress: exchange_front::carry_on(at, op),
-            }
-        }
-        Next::Nothing => StepAnswer { next, progress: at },
+    let Some(op) = exchange_front::find_next(g, job, at, boot, update) else {
+        return StepAnswer {
+            done: None,
+            progress: at,
+        };
+    };
+    do_operation(g, op, boot, update, swap);
+    StepAnswer {
+        done: Some(op),
+        progress: exchange_front::carry_on(at, op),
     }
 }
 
@@ -126,15 +126,10 @@ pub fn repeat_step(
     let mut at = exchange_front::begin(g, update, budget);
     while 0 < at.left {
         let step = do_next(g, job, at, boot, update, swap);
-        let next = step.next;
-        match next {
-            Next::Do(_) => {
-                at = step.progress;
-            }
-            Next::Nothing => {
-                return at;
-            }
+        if step.done.is_none() {
+            return at;
         }
+        at = step.progress;
     }
     at
 }
