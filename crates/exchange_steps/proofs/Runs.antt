@@ -3,9 +3,8 @@ use mathlib.Core.Path.{◌≡◌, sym, ap, ap₂, ◌∙◌}
 use mathlib.Core.List.{List}
 use Prim.Native.Nat.{ℕ, suc, ◌+◌, ◌-◌, ◌≤◌, ◌<◌}
 use native.Mathlib.Omega.{arith}
-use lib.ListN.{length}
 use Rattle.flash.specs.declared.Geometry.{Geometry}
-use Rattle.flash.specs.Buffers.{Flash, flash, Shaped}
+use Rattle.flash.specs.Buffers.{Flash, Shaped}
 use Rattle.flash_flags.specs.Front.{WellFormed}
 use Rattle.exchange.specs.declared.Job.{Job}
 use Rattle.exchange.specs.declared.Operation.{Operation}
@@ -18,11 +17,24 @@ use Rattle.exchange_front.specs.declared.Progress.{Progress}
 use Rattle.exchange_front.specs.Carried.{begun, progress_scanned, Current}
 use Rattle.exchange_front.proofs.Follows.{steps_keep_form}
 use Rattle.exchange_steps.specs.declared.StepAnswer.{StepAnswer}
+use Rattle.exchange_steps.specs.declared.FlashMut.{FlashMut}
+use Rattle.exchange_steps.specs.Lent.{bytes, SameFlash}
 use Rattle.exchange_steps.specs.Inner.{stepped, ran}
 
-pub shaped_kept : (g : Geometry) (b u s b' u' s' : List ℕ) → Shaped g (flash b u s) → length b' ≡ length b → length u' ≡ length u → length s' ≡ length s
-    → Shaped g (flash b' u' s')
-shaped_kept g b u s b' u' s' h p q r = record { limits = h.limits; boot = p ∙ h.boot; update = q ∙ h.update; swap = r ∙ h.swap }
+pub shaped_kept : (g : Geometry) (f f' : FlashMut) → Shaped g (bytes f) → SameFlash f f' → Shaped g (bytes f')
+shaped_kept g f f' h k =
+    record { limits = h.limits; boot = k.boot_length ∙ h.boot; update = k.update_length ∙ h.update; swap = k.swap_length ∙ h.swap }
+
+pub same_again : (f f' f'' : FlashMut) → SameFlash f f' → SameFlash f' f'' → SameFlash f f''
+same_again f f' f'' k h = record {
+  geometry = h.geometry ∙ k.geometry;
+  boot = h.boot ∙ k.boot;
+  update = h.update ∙ k.update;
+  swap = h.swap ∙ k.swap;
+  boot_length = h.boot_length ∙ k.boot_length;
+  update_length = h.update_length ∙ k.update_length;
+  swap_length = h.swap_length ∙ k.swap_length;
+}
 
 -- after a budget has come down to `left`: the operations before, and the run that is left
 abbrev pub run_left : Job → Geometry → ℕ → Progress → Flash → Run
