@@ -1,10 +1,10 @@
 -- The loop that repeats the step, and the lengths that it keeps.
-use mathlib.Core.Path.{◌≡◌, sym, ap, ap₂, ◌∙◌}
+use mathlib.Core.Path.{◌≡◌, refl, sym, ap, ap₂, ◌∙◌}
 use mathlib.Core.List.{List}
 use Prim.Native.Nat.{ℕ, suc, ◌+◌, ◌-◌, ◌≤◌, ◌<◌}
 use native.Mathlib.Omega.{arith}
 use Rattle.flash.specs.declared.Geometry.{Geometry}
-use Rattle.flash.specs.Buffers.{Flash, Shaped}
+use Rattle.flash.specs.Buffers.{Flash, flash, Shaped}
 use Rattle.flash_flags.specs.Front.{WellFormed}
 use Rattle.exchange.specs.declared.Job.{Job}
 use Rattle.exchange.specs.declared.Operation.{Operation}
@@ -35,6 +35,10 @@ same_again f f' f'' k h = record {
   update_length = h.update_length ∙ k.update_length;
   swap_length = h.swap_length ∙ k.swap_length;
 }
+
+-- what the three buffers hold once the references to them are gone
+pub given_back : (f : FlashMut) {b u s : List ℕ} → b ≡ f.boot.now → u ≡ f.update.now → s ≡ f.swap.now → flash b u s ≡ bytes f
+given_back f p q r = rw (p, q, r) refl
 
 -- after a budget has come down to `left`: the operations before, and the run that is left
 abbrev pub run_left : Job → Geometry → ℕ → Progress → Flash → Run
