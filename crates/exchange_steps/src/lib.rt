@@ -12,7 +12,7 @@ ghost use Rattle.exchange_front.specs.Carried.{Current};
 ghost use Rattle.exchange_steps.specs.Lent.{bytes, SameFlash};
 ghost use Rattle.exchange_steps.specs.Inner.{SectorWithin, ran, Steps};
 
-use exchange::{Area, Job, Next, Operation};
+use exchange::{Area, Job, Operation};
 use exchange_front::Progress;
 use flash::{Geometry, SectorNumber};
 use flash_flags::Leg;
@@ -82,8 +82,8 @@ impl<'b, 'u, 's> FlashMut<'b, 'u, 's> {
             Operation::EraseUpdateTrailer => {
                 flash_sectors::erase_sector(g, self.update, SectorNumber(g.firmware_sectors()))
             }
-            Operation::WriteBootStatus(s) => flash_status::write_boot_status(g, self.boot, s),
-            Operation::WriteUpdateStatus(s) => flash_status::write_update_status(g, self.update, s),
+            Operation::WriteBootStatus(s) => flash_status::write_status(g, self.boot, s),
+            Operation::WriteUpdateStatus(s) => flash_status::write_status(g, self.update, s),
         }
     }
 
@@ -95,16 +95,16 @@ impl<'b, 'u, 's> FlashMut<'b, 'u, 's> {
     {
         let boot = &mut *self.boot;
         let update = &mut *self.update;
-        let next = exchange_front::find_next(self.geometry, job, at, boot, update);
-        match next {
-            Next::Do(op) => {
-                self.do_operation(op);
-                StepAnswer {
-                    next,
-                    progress: exchange_front::carry_on(at, op),
-                }
-            }
-            Next::Nothing => StepAnswer { next, progress: at },
+        let Some(op) = exchange_front::find_next(self.geometry, job, at, boot, update) else {
+            return StepAnswer {
+                done: None,
+                progress: at,
+            };
+        };
+        self.do_operation(op);
+        StepAnswer {
+            done: Some(op),
+            progress: exchange_front::carry_on(at, op),
         }
     }
 
@@ -119,15 +119,10 @@ impl<'b, 'u, 's> FlashMut<'b, 'u, 's> {
         let mut at = exchange_front::begin(self.geometry, update, budget);
         while 0 < at.left {
             let step = self.do_next(job, at);
-            let next = step.next;
-            match next {
-                Next::Do(_) => {
-                    at = step.progress;
-                }
-                Next::Nothing => {
-                    return at;
-                }
+            if step.done.is_none() {
+                return at;
             }
+            at = step.progress;
         }
         at
     }
@@ -136,6 +131,6 @@ impl<'b, 'u, 's> FlashMut<'b, 'u, 's> {
 // The operation that a step did, if one was next, and what it carries on.
 #[derive(Clone, Copy)]
 pub struct StepAnswer {
-    pub next: Next,
+    pub done: Option<Operation>,
     pub progress: Progress,
 }

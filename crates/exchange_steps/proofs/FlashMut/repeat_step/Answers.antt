@@ -3,7 +3,7 @@ use native.Mathlib.Omega.{arith}
 use Rattle.flash.specs.Buffers.{Flash}
 use Rattle.exchange_front.proofs.Follows.{current_within}
 use Rattle.exchange_steps.specs.Lent.{bytes}
-use Rattle.exchange_steps.proofs.Runs.{shaped_kept, same_again, current_same, run_on, left_on, current_on, run_over, run_spent}
+use Rattle.exchange_steps.proofs.Runs.{did, did_none, shaped_kept, same_again, current_same, run_on, left_on, current_on, run_over, run_spent}
 use Rattle.exchange_steps.proofs.FlashMut.repeat_step.Goals as goal
 
 pub do_next-step-requires : goal.do_next-step-requires
@@ -19,7 +19,7 @@ loop-at-preserved c =
     let g = a.self.now.geometry in
     let s = c.do_next-step in
     let f = bytes l.self in
-    let n = c.in-Do.is in
+    let n = (did s.result.done c.if-is_none.ensures).1 in
     let step = rw l.invariant.4.geometry at s.ensures.step in
     let ruled = step.ruled l.invariant.2 in
     let scanned = step.scanned l.invariant.2 in
@@ -31,18 +31,18 @@ loop-at-preserved c =
       same_again _ l.self s.new.self l.invariant.4 s.ensures.same,
     )
 
-pub returns-in-Nothing-clause-steps : goal.returns-in-Nothing-clause-steps
-returns-in-Nothing-clause-steps c =
+pub returns-then-is_none-clause-steps : goal.returns-then-is_none-clause-steps
+returns-then-is_none-clause-steps c =
     let l = c.loop-at in
     let a = c.args in
     let g = a.self.now.geometry in
     let s = c.do_next-step in
     let step = rw l.invariant.4.geometry at s.ensures.step in
-    let o = run_over a.job g a.budget l.at (bytes l.self) _ s.result (step.ruled l.invariant.2) c.in-Nothing.is (omega (arith, c.loop-at-test.true)) in
+    let o = run_over a.job g a.budget l.at (bytes l.self) _ s.result (step.ruled l.invariant.2) (did_none s.result.done c.if-is_none.ensures) (omega (arith, c.loop-at-test.true)) in
     (o.0 ∙ l.invariant.3, current_same g _ _ l.at (ap (λ (x : Flash). x.update) o.1) l.invariant.2, l.invariant.0)
 
-pub returns-in-Nothing-clause-same : goal.returns-in-Nothing-clause-same
-returns-in-Nothing-clause-same c =
+pub returns-then-is_none-clause-same : goal.returns-then-is_none-clause-same
+returns-then-is_none-clause-same c =
     let l = c.loop-at in
     same_again _ l.self c.do_next-step.new.self l.invariant.4 c.do_next-step.ensures.same
 

@@ -2,7 +2,7 @@ use mathlib.Core.Path.{sym, ap}
 use Rattle.std.proofs.Common.{rules}
 use borrow.Author.Tests.{tests}
 use Rattle.flash_status.specs.StatusBytes.{boot_status_of}
-use Rattle.flash_status.proofs.BootStatus.of.Goals as goal
+use Rattle.flash_status.proofs.BootStatusTryFromU8.try_from.Goals as goal
 
 pub returns-in-255 : goal.returns-in-255
 unfolding boot_status_of

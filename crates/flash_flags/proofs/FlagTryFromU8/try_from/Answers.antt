@@ -2,7 +2,7 @@ use mathlib.Core.Path.{sym, ap}
 use Rattle.std.proofs.Common.{rules}
 use borrow.Author.Tests.{tests}
 use Rattle.flash_flags.specs.SectorFlags.{flag_of}
-use Rattle.flash_flags.proofs.Flag.of.Goals as goal
+use Rattle.flash_flags.proofs.FlagTryFromU8.try_from.Goals as goal
 
 pub returns-in-15 : goal.returns-in-15
 unfolding flag_of

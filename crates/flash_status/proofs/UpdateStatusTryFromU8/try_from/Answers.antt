@@ -2,7 +2,7 @@ use mathlib.Core.Path.{sym, ap}
 use Rattle.std.proofs.Common.{rules}
 use borrow.Author.Tests.{tests}
 use Rattle.flash_status.specs.StatusBytes.{update_status_of}
-use Rattle.flash_status.proofs.UpdateStatus.of.Goals as goal
+use Rattle.flash_status.proofs.UpdateStatusTryFromU8.try_from.Goals as goal
 
 pub returns-in-255 : goal.returns-in-255
 unfolding update_status_of
