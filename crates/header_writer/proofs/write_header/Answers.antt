@@ -7,8 +7,8 @@ use Rattle.header_writer.proofs.write_header.Goals as goal
 pub returns-then-out-lt-HEADER_LENGTH : goal.returns-then-out-lt-HEADER_LENGTH
 returns-then-out-lt-HEADER_LENGTH c = too_short c.args.v c.args.out.now c.if-out-lt-HEADER_LENGTH.true
 
-pub returns-then-size-eq0 : goal.returns-then-size-eq0
-returns-then-size-eq0 c = zero_size c.args.v c.args.out.now c.if-out-lt-HEADER_LENGTH.false c.if-size-eq0.true
+pub returns-then-v-eq0 : goal.returns-then-v-eq0
+returns-then-v-eq0 c = zero_size c.args.v c.args.out.now c.if-out-lt-HEADER_LENGTH.false c.if-v-eq0.true
 
 pub put_hint-end_at-requires : goal.put_hint-end_at-requires
 put_hint-end_at-requires c =
@@ -28,4 +28,4 @@ returns c =
     let digest : length c.args.v.digest ≡ 32 = omega arith in
     let signature : length c.args.v.signature ≡ 64 = omega arith in
     let hint : length c.args.v.hint ≡ 32 = omega arith in
-    written c.args.v c.args.out.now c.if-out-lt-HEADER_LENGTH.false c.if-size-eq0.false (puts_header c.args.v c.if-out-lt-HEADER_LENGTH.false (length_required c.args.v digest signature) (length_hint c.args.v.has_hint c.args.v.hint hint) c.put_front-tags_at.ensures c.put_required-hint_at.ensures c.put_hint-end_at.ensures c.put_end.ensures)
+    written c.args.v c.args.out.now c.if-out-lt-HEADER_LENGTH.false c.if-v-eq0.false (puts_header c.args.v c.if-out-lt-HEADER_LENGTH.false (length_required c.args.v digest signature) (length_hint c.args.v.has_hint c.args.v.hint hint) c.put_front-tags_at.ensures c.put_required-hint_at.ensures c.put_hint-end_at.ensures c.put_end.ensures)
