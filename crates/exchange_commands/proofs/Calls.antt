@@ -1,29 +1,20 @@
 -- A command by its checks: geometry and lengths, and what the others decide.
-use mathlib.Core.Path.{◌≡◌, refl, sym, ap, ◌∙◌, subst}
+use mathlib.Core.Path.{◌≡◌, refl, sym, ap, ◌∙◌}
 use mathlib.Core.Bool.{Bool, true, false, cond}
 use Prim.Native.Nat.{ℕ}
 use Rattle.numbers.specs.Answer.{Answer, gives, refused}
 use Rattle.flash.specs.declared.Geometry.{Geometry}
 use Rattle.flash.specs.Sizes.{geometry, geometry_where}
 use Rattle.flash.specs.Buffers.{Flash, fits, flash_of}
-use Rattle.flash.proofs.Checked.{shaped_of}
 use Rattle.exchange.specs.Commands.{command, arm_command, confirm_command}
 use Rattle.exchange_commands.specs.declared.CommandKind.{CommandKind}
 use Rattle.exchange_commands.specs.declared.CommandKind.TheVariants.{Arm, Confirm}
 use Rattle.exchange_commands.specs.declared.Permit.{Permit}
-use Rattle.exchange_commands.specs.Inner.{permit_of, permit_at, command_operations, ShapedWhere, command_after}
+use Rattle.exchange_commands.specs.Inner.{permit_of, permit_at, command_operations, command_after}
 
 -- ---- by what the check of geometry and lengths gave
 
 module _ (n s : ℕ) (f : Flash) (a : Answer Geometry) (e : a ≡ flash_of n s f) where
-  pub shaped_where : ShapedWhere a f
-  unfolding flash_of
-  shaped_where = subst (λ (x : Answer Geometry). ShapedWhere x f) (sym e) (by (fits (geometry n s) f) refl)
-    where
-      by : (b : Bool) → fits (geometry n s) f ≡ b → ShapedWhere (geometry_where b n s) f
-      by true h = shaped_of (geometry n s) f h
-      by false h = tt
-
   by_fit : (k : CommandKind) (b : Bool)
       → command_after k (geometry_where b n s) f ≡ command (geometry n s) (command_operations k) (cond b (permit_at k (geometry n s) f.boot f.update) (refused 1 0)) f
   by_fit k true = refl

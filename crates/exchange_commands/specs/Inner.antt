@@ -2,7 +2,7 @@
 use Rattle.std.specs.Prelude.{List, ℕ}
 use Rattle.numbers.specs.Answer.{Answer, gives, refused}
 use Rattle.flash.specs.declared.Geometry.{Geometry}
-use Rattle.flash.specs.Buffers.{Flash, Shaped}
+use Rattle.flash.specs.Buffers.{Flash}
 use Rattle.flash_status.specs.declared.BootStatus.{BootStatus}
 use Rattle.flash_status.specs.declared.UpdateStatus.{UpdateStatus}
 use Rattle.flash_status.specs.StatusBytes.{boot_status_at, update_status_at}
@@ -34,11 +34,7 @@ command_operations Confirm = confirm_operations
 abbrev pub permit_at : CommandKind → Geometry → List ℕ → List ℕ → Answer (Unit {0})
 permit_at k g boot update = with_statuses (boot_status_at g boot) (update_status_at g update) (may_do k (flags_at g update))
 
--- by what the check of geometry and lengths gave: what is known of the flash, and the rest of a command
-abbrev pub ShapedWhere : Answer Geometry → Flash → Type 0
-ShapedWhere (gives g) f = Shaped g f
-ShapedWhere (refused n p) f = Unit {0}
-
+-- the rest of a command, by what the check of geometry and lengths gave
 abbrev pub command_after : CommandKind → Answer Geometry → Flash → Command
 command_after k (gives g) f = command g (command_operations k) (permit_at k g f.boot f.update) f
 command_after k (refused n p) f = record { answer = refused n p; flash = f }

@@ -3,15 +3,17 @@
 
 ghost use Rattle.std.specs.Prelude.{◌≡◌};
 ghost use Rattle.numbers.specs.Answer.{gives};
-ghost use Rattle.flash.specs.Sizes.{geometry, geometry_answer};
+ghost use Rattle.flash.specs.Sizes.{geometry};
 ghost use Rattle.flash.specs.Sectors.{Partition};
 ghost use Rattle.flash.specs.Buffers.{flash, Shaped};
 ghost use Rattle.flash_flags.specs.SectorFlags.{flags_at};
 ghost use Rattle.exchange.specs.Commands.{command, may_arm, confirm_flags, may_confirm, arm_command, confirm_command};
+ghost use Rattle.exchange_steps.specs.Lent.{bytes, SameFlash};
 ghost use Rattle.exchange_commands.specs.Numbers.{commanded};
-ghost use Rattle.exchange_commands.specs.Inner.{permit_of, may_do, permit_at, command_operations, ShapedWhere, command_after};
+ghost use Rattle.exchange_commands.specs.Inner.{permit_of, may_do, permit_at, command_operations, command_after};
 
 use exchange::Operation;
+use exchange_steps::FlashMut;
 use flash::{Geometry, GeometryAnswer};
 use flash_flags::Flags;
 use flash_status::{BootStatus, Statuses, UpdateStatus};
@@ -115,60 +117,36 @@ pub fn decide(kind: CommandKind, g: Geometry, boot: &[u8], update: &[u8]) -> Per
 // ---- the operations
 
 // All operations of a command.
-fn do_operations(
-    kind: CommandKind,
-    g: Geometry,
-    boot: &mut [u8],
-    update: &mut [u8],
-    swap: &mut [u8],
-) -> CommandAnswer
-    requires { Shaped g (flash boot.old update.old swap.old) }
-    ensures { commanded result (flash boot.new update.new swap.new)
-        ≡ command g (command_operations kind) (gives tt) (flash boot.old update.old swap.old) }
+fn do_operations(kind: CommandKind, f: &mut FlashMut) -> CommandAnswer
+    requires { Shaped f.old.geometry (bytes f.old) }
+    ensures same { SameFlash f.old f.new }
+    ensures command { commanded result (bytes f.new)
+        ≡ command f.old.geometry (command_operations kind) (gives tt) (bytes f.old) }
 {
     match kind {
         CommandKind::Arm => {
-            exchange_steps::do_operation(g, Operation::EraseUpdateTrailer, boot, update, swap);
-            exchange_steps::do_operation(
-                g,
-                Operation::WriteUpdateStatus(UpdateStatus::Updating),
-                boot,
-                update,
-                swap,
-            );
+            f.do_operation(Operation::EraseUpdateTrailer);
+            f.do_operation(Operation::WriteUpdateStatus(UpdateStatus::Updating));
             CommandAnswer::Done(2)
         }
         CommandKind::Confirm => {
-            exchange_steps::do_operation(
-                g,
-                Operation::WriteBootStatus(BootStatus::Success),
-                boot,
-                update,
-                swap,
-            );
+            f.do_operation(Operation::WriteBootStatus(BootStatus::Success));
             CommandAnswer::Done(1)
         }
     }
 }
 
-// A command, after the check of geometry and lengths: where its own checks grant it, its operations.
-fn obey(
-    kind: CommandKind,
-    fit: GeometryAnswer,
-    boot: &mut [u8],
-    update: &mut [u8],
-    swap: &mut [u8],
-) -> CommandAnswer
-    requires { ShapedWhere (geometry_answer fit) (flash boot.old update.old swap.old) }
-    ensures { commanded result (flash boot.new update.new swap.new)
-        ≡ command_after kind (geometry_answer fit) (flash boot.old update.old swap.old) }
+// A command on a flash of the right lengths: where its own checks grant it, its operations.
+fn obey(kind: CommandKind, f: &mut FlashMut) -> CommandAnswer
+    requires { Shaped f.old.geometry (bytes f.old) }
+    ensures same { SameFlash f.old f.new }
+    ensures command { commanded result (bytes f.new) ≡ command_after kind (gives f.old.geometry) (bytes f.old) }
 {
-    match fit {
-        GeometryAnswer::Fits(g) => match decide(kind, g, boot, update) {
-            Permit::Granted => do_operations(kind, g, boot, update, swap),
-            Permit::Denied(refusal) => CommandAnswer::Refused(refusal),
-        },
-        GeometryAnswer::Outside => CommandAnswer::Refused(CommandRefusal::OutsideRules),
+    let boot = &mut *f.boot;
+    let update = &mut *f.update;
+    match decide(kind, f.geometry, boot, update) {
+        Permit::Granted => do_operations(kind, f),
+        Permit::Denied(refusal) => CommandAnswer::Refused(refusal),
     }
 }
 
@@ -183,8 +161,18 @@ pub fn arm(
     ensures { commanded result (flash boot.new update.new swap.new)
         ≡ arm_command (geometry sectors size) (flash boot.old update.old swap.old) }
 {
-    let fit = flash::check_flash(sectors, size, boot, update, swap);
-    obey(CommandKind::Arm, fit, boot, update, swap)
+    match flash::check_flash(sectors, size, boot, update, swap) {
+        GeometryAnswer::Fits(geometry) => {
+            let mut f = FlashMut {
+                geometry,
+                boot,
+                update,
+                swap,
+            };
+            obey(CommandKind::Arm, &mut f)
+        }
+        GeometryAnswer::Outside => CommandAnswer::Refused(CommandRefusal::OutsideRules),
+    }
 }
 
 // Keeps the image that runs on test. Any numbers, lengths and bytes are taken.
@@ -198,6 +186,16 @@ pub fn confirm(
     ensures { commanded result (flash boot.new update.new swap.new)
         ≡ confirm_command (geometry sectors size) (flash boot.old update.old swap.old) }
 {
-    let fit = flash::check_flash(sectors, size, boot, update, swap);
-    obey(CommandKind::Confirm, fit, boot, update, swap)
+    match flash::check_flash(sectors, size, boot, update, swap) {
+        GeometryAnswer::Fits(geometry) => {
+            let mut f = FlashMut {
+                geometry,
+                boot,
+                update,
+                swap,
+            };
+            obey(CommandKind::Confirm, &mut f)
+        }
+        GeometryAnswer::Outside => CommandAnswer::Refused(CommandRefusal::OutsideRules),
+    }
 }
