@@ -11,6 +11,7 @@ ghost use Rattle.exchange_commands.specs.Numbers.{command_of, commanded};
 ghost use Rattle.exchange_commands.specs.Inner.{permit_at, permitted};
 
 use exchange::Operation;
+use exchange_steps::FlashMut;
 use flash::Geometry;
 use flash_flags::Flags;
 use flash_status::{BootStatus, UpdateStatus};
@@ -106,15 +107,15 @@ pub fn arm(
     ensures { commanded result (flash boot.new update.new swap.new)
         ≡ arm_command (geometry sectors size) (flash boot.old update.old swap.old) }
 {
-    let g = permit(CommandKind::Arm, sectors, size, boot, update, swap)?;
-    exchange_steps::do_operation(g, Operation::EraseUpdateTrailer, boot, update, swap);
-    exchange_steps::do_operation(
-        g,
-        Operation::WriteUpdateStatus(UpdateStatus::Updating),
+    let geometry = permit(CommandKind::Arm, sectors, size, boot, update, swap)?;
+    let mut f = FlashMut {
+        geometry,
         boot,
         update,
         swap,
-    );
+    };
+    f.do_operation(Operation::EraseUpdateTrailer);
+    f.do_operation(Operation::WriteUpdateStatus(UpdateStatus::Updating));
     Ok(2)
 }
 
@@ -129,13 +130,13 @@ pub fn confirm(
     ensures { commanded result (flash boot.new update.new swap.new)
         ≡ confirm_command (geometry sectors size) (flash boot.old update.old swap.old) }
 {
-    let g = permit(CommandKind::Confirm, sectors, size, boot, update, swap)?;
-    exchange_steps::do_operation(
-        g,
-        Operation::WriteBootStatus(BootStatus::Success),
+    let geometry = permit(CommandKind::Confirm, sectors, size, boot, update, swap)?;
+    let mut f = FlashMut {
+        geometry,
         boot,
         update,
         swap,
-    );
+    };
+    f.do_operation(Operation::WriteBootStatus(BootStatus::Success));
     Ok(1)
 }

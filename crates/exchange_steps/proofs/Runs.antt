@@ -4,7 +4,6 @@ use mathlib.Core.Bool.{true, false, true≢false}
 use mathlib.Core.List.{List}
 use Prim.Native.Nat.{ℕ, suc, ◌+◌, ◌-◌, ◌≤◌, ◌<◌}
 use native.Mathlib.Omega.{arith}
-use lib.ListN.{length}
 use Rattle.std.specs.Prelude.{Option, Some, None, is_some}
 use Rattle.flash.specs.declared.Geometry.{Geometry}
 use Rattle.flash.specs.Buffers.{Flash, flash, Shaped}
@@ -18,11 +17,31 @@ use Rattle.exchange_front.specs.declared.Progress.{Progress}
 use Rattle.exchange_front.specs.Carried.{begun, progress_scanned, Current}
 use Rattle.exchange_front.proofs.Follows.{steps_keep_form}
 use Rattle.exchange_steps.specs.declared.StepAnswer.{StepAnswer}
+use Rattle.exchange_steps.specs.declared.FlashMut.{FlashMut}
+use Rattle.exchange_steps.specs.Lent.{bytes, SameFlash}
 use Rattle.exchange_steps.specs.Inner.{stepped, ran}
 
-pub shaped_kept : (g : Geometry) (b u s b' u' s' : List ℕ) → Shaped g (flash b u s) → length b' ≡ length b → length u' ≡ length u → length s' ≡ length s
-    → Shaped g (flash b' u' s')
-shaped_kept g b u s b' u' s' h p q r = record { limits = h.limits; boot = p ∙ h.boot; update = q ∙ h.update; swap = r ∙ h.swap }
+pub shaped_kept : (g : Geometry) (f f' : FlashMut) → Shaped g (bytes f) → SameFlash f f' → Shaped g (bytes f')
+shaped_kept g f f' h k =
+    record { limits = h.limits; boot = k.boot_length ∙ h.boot; update = k.update_length ∙ h.update; swap = k.swap_length ∙ h.swap }
+
+pub shaped_on : (f f' : FlashMut) → Shaped f.geometry (bytes f) → SameFlash f f' → Shaped f'.geometry (bytes f')
+shaped_on f f' h k = rw k.geometry (shaped_kept f.geometry f f' h k)
+
+pub same_again : (f f' f'' : FlashMut) → SameFlash f f' → SameFlash f' f'' → SameFlash f f''
+same_again f f' f'' k h = record {
+  geometry = h.geometry ∙ k.geometry;
+  boot = h.boot ∙ k.boot;
+  update = h.update ∙ k.update;
+  swap = h.swap ∙ k.swap;
+  boot_length = h.boot_length ∙ k.boot_length;
+  update_length = h.update_length ∙ k.update_length;
+  swap_length = h.swap_length ∙ k.swap_length;
+}
+
+-- what the three buffers hold once the references to them are gone
+pub given_back : (f : FlashMut) {b u s : List ℕ} → b ≡ f.boot.now → u ≡ f.update.now → s ≡ f.swap.now → flash b u s ≡ bytes f
+given_back f p q r = rw (p, q, r) refl
 
 -- whether a step did an operation
 pub did : (x : Option Operation) → is_some x ≡ true → (o : Operation) × (x ≡ Some o)
