@@ -15,10 +15,7 @@ use output::put;
 pub fn of_tag(found: Result<Option<Tag>, WalkRefusal>) -> u32
     ensures { result ≡ (refusal_of (item_of found)).number }
 {
-    match found {
-        Ok(_) => 0,
-        Err(refusal) => refusal.refused().number,
-    }
+    numbers::refused_by(found).number
 }
 
 // The row of a tag, behind the place of a refusal.

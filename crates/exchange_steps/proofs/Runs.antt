@@ -25,6 +25,9 @@ pub shaped_kept : (g : Geometry) (f f' : FlashMut) → Shaped g (bytes f) → Sa
 shaped_kept g f f' h k =
     record { limits = h.limits; boot = k.boot_length ∙ h.boot; update = k.update_length ∙ h.update; swap = k.swap_length ∙ h.swap }
 
+pub shaped_on : (f f' : FlashMut) → Shaped f.geometry (bytes f) → SameFlash f f' → Shaped f'.geometry (bytes f')
+shaped_on f f' h k = rw k.geometry (shaped_kept f.geometry f f' h k)
+
 pub same_again : (f f' f'' : FlashMut) → SameFlash f f' → SameFlash f' f'' → SameFlash f f''
 same_again f f' f'' k h = record {
   geometry = h.geometry ∙ k.geometry;

@@ -42,8 +42,7 @@ fn read_release(h: &[u8], places: [usize; ROWS]) -> Release
     requires { TagsFit document_table places (length h.now) }
     ensures { result ≡ release_of (values_at h.now places) }
 {
-    let version = places[0];
-    let timestamp = places[1];
+    let [version, timestamp, ..] = places;
     Release {
         version: header_reader::read_u32(h, version + 4),
         size: header_reader::read_u32(h, 4),

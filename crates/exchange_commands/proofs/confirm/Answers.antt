@@ -1,24 +1,30 @@
-use mathlib.Core.Path.{ap, ◌∙◌}
 use borrow.Author.Rules.{rules}
-use Rattle.flash.specs.Buffers.{Flash, flash}
-use Rattle.flash.proofs.Answers.{flash_given_lem}
+use mathlib.Core.Path.{◌∙◌}
+use Rattle.std.proofs.lemmas.Result.{err_from_is_err_and}
+use Rattle.flash.specs.Buffers.{flash}
+use Rattle.exchange.specs.Commands.{confirm_operations, confirm_command}
 use Rattle.exchange_steps.proofs.Runs.{given_back}
-use Rattle.exchange_commands.specs.Numbers.{commanded}
-use Rattle.exchange_commands.proofs.Calls.{is_confirm}
+use Rattle.exchange_commands.specs.declared.CommandKind.TheVariants.{Confirm}
+use Rattle.exchange_commands.proofs.Calls.{refused_command, granted_shaped, granted_command}
 use Rattle.exchange_commands.proofs.confirm.Goals as goal
 
-pub obey-requires : goal.obey-requires
-obey-requires c = flash_given_lem _ _ _ _ (rw c.in-Fits.is at c.check_flash.ensures)
-
-pub returns-in-Fits : goal.returns-in-Fits
-returns-in-Fits c =
+pub returns-in_err-geometry : goal.returns-in_err-geometry
+unfolding confirm_command
+returns-in_err-geometry c =
     let a = c.args in
-    let o = c.obey in
+    let p = err_from_is_err_and c.from_residual.result c.from_residual.ensures.1 in
+    rw (p.1, p.2) (refused_command Confirm a.sectors a.size (flash a.boot.now a.update.now a.swap.now) confirm_operations c.in_err-geometry.ensures)
+
+pub do_operation-requires : goal.do_operation-requires
+do_operation-requires c =
+    let a = c.args in
+    (granted_shaped Confirm a.sectors a.size (flash a.boot.now a.update.now a.swap.now) c.in_ok-geometry.ensures, tt)
+
+pub returns : goal.returns
+unfolding confirm_command
+returns c =
+    let a = c.args in
+    let o = c.do_operation in
     let k = o.ensures.same in
-    ap (λ (f : Flash). commanded o.result f) (given_back o.new.f (search (rules, k)) (search (rules, k)) (search (rules, k)))
-    ∙ o.ensures.command ∙ is_confirm a.sectors a.size (flash a.boot.now a.update.now a.swap.now) _ (rw c.in-Fits.is at c.check_flash.ensures)
-
-pub returns-in-Outside : goal.returns-in-Outside
-returns-in-Outside c =
-    let a = c.args in
-    is_confirm a.sectors a.size (flash a.boot.now a.update.now a.swap.now) _ (rw c.in-Outside.is at c.check_flash.ensures)
+    granted_command Confirm a.sectors a.size (flash a.boot.now a.update.now a.swap.now) c.in_ok-geometry.ensures confirm_operations
+    (given_back o.new.self (search (rules, k)) (search (rules, k)) (search (rules, k)) ∙ o.ensures.bytes)
