@@ -5,6 +5,7 @@ ghost use Rattle.std.specs.Prelude.{◌≡◌, length};
 ghost use Rattle.flash.specs.Sizes.{geometry};
 ghost use Rattle.flash.specs.Buffers.{flash, Shaped};
 ghost use Rattle.exchange.specs.Commands.{command, arm_operations};
+ghost use Rattle.exchange_steps.specs.Lent.{bytes, SameFlash};
 ghost use Rattle.exchange_commands.specs.declared.CommandKind.TheVariants.{Arm};
 ghost use Rattle.exchange_commands.specs.Numbers.{command_of, commanded};
 ghost use Rattle.exchange_commands.specs.Inner.{permit_at};
@@ -17,7 +18,8 @@ ghost use Rattle.counts_arm.specs.Inner.{with_total, refused_answer};
 use counts_row::RowAnswer;
 use exchange::Operation;
 use exchange_commands::{CommandAnswer, CommandKind, Permit};
-use flash::{Geometry, GeometryAnswer};
+use exchange_steps::FlashMut;
+use flash::GeometryAnswer;
 use flash_status::UpdateStatus;
 use numbers::{CommandRefusal, RowRefusal};
 
@@ -36,29 +38,20 @@ pub struct CountedArmAnswer {
 }
 
 // Arm's operations, where its checks grant them: the erase is counted before the next is done.
-fn obey(
-    g: Geometry,
-    boot: &mut [u8],
-    update: &mut [u8],
-    swap: &mut [u8],
-    row: &mut [u32],
-) -> CommandAnswer
-    requires { (Shaped g (flash boot.old update.old swap.old)) × (length row.old ≡ row_length g) × (RoomForM g row.old) }
-    ensures { (commanded result (flash boot.new update.new swap.new)
-        ≡ command g arm_operations (permit_at Arm g boot.old update.old) (flash boot.old update.old swap.old))
-        × (row.new ≡ raised g (arm_done (command_of result)) row.old) }
+fn obey(f: &mut FlashMut, row: &mut [u32]) -> CommandAnswer
+    requires { (Shaped f.old.geometry (bytes f.old)) × (length row.old ≡ row_length f.old.geometry) × (RoomForM f.old.geometry row.old) }
+    ensures same { SameFlash f.old f.new }
+    ensures answer { (commanded result (bytes f.new)
+        ≡ command f.old.geometry arm_operations (permit_at Arm f.old.geometry f.old.boot.now f.old.update.now) (bytes f.old))
+        × (row.new ≡ raised f.old.geometry (arm_done (command_of result)) row.old) }
 {
-    match exchange_commands::decide(CommandKind::Arm, g, boot, update) {
+    let boot = &mut *f.boot;
+    let update = &mut *f.update;
+    match exchange_commands::decide(CommandKind::Arm, f.geometry, boot, update) {
         Permit::Granted => {
-            exchange_steps::do_operation(g, Operation::EraseUpdateTrailer, boot, update, swap);
-            counts_row::count_done(g, Operation::EraseUpdateTrailer, row);
-            exchange_steps::do_operation(
-                g,
-                Operation::WriteUpdateStatus(UpdateStatus::Updating),
-                boot,
-                update,
-                swap,
-            );
+            f.do_operation(Operation::EraseUpdateTrailer);
+            counts_row::count_done(f.geometry, Operation::EraseUpdateTrailer, row);
+            f.do_operation(Operation::WriteUpdateStatus(UpdateStatus::Updating));
             CommandAnswer::Done(2)
         }
         Permit::Denied(refusal) => CommandAnswer::Refused(refusal),
@@ -99,9 +92,15 @@ pub fn arm_counted(
         ≡ counted_arm (geometry sectors size) (flash boot.old update.old swap.old) row.old total }
 {
     match flash::check_flash(sectors, size, boot, update, swap) {
-        GeometryAnswer::Fits(g) => match counts_row::check_row(g, row, total) {
+        GeometryAnswer::Fits(geometry) => match counts_row::check_row(geometry, row, total) {
             RowAnswer::Counts => {
-                let a = obey(g, boot, update, swap, row);
+                let mut f = FlashMut {
+                    geometry,
+                    boot,
+                    update,
+                    swap,
+                };
+                let a = obey(&mut f, row);
                 let sum = counts_row::sum_of(row);
                 with_total(a, sum)
             }

@@ -1,5 +1,5 @@
 -- The counted power-up by its first checks.
-use mathlib.Core.Path.{◌≡◌, refl, sym, ap, ◌∙◌}
+use mathlib.Core.Path.{◌≡◌, refl, ap, ◌∙◌}
 use mathlib.Core.List.{List}
 use Prim.Native.Nat.{ℕ}
 use Rattle.numbers.specs.Answer.{Answer, gives, refused, numbered}
@@ -14,7 +14,7 @@ use Rattle.exchange.specs.Decision.{Check, Plan, decide_within, decide}
 use Rattle.exchange.specs.PowerUp.{PowerUp, refusal, idle, carry_out, power_up, operations_in, operations_of}
 use Rattle.power_up.proofs.Calls.{power_up_inside}
 use Rattle.counts.specs.Row.{raised, sum, check_row}
-use Rattle.counts.specs.Calls.{check_counted, counted, counted_power_up}
+use Rattle.counts.specs.Calls.{counted_power_up}
 use Rattle.counts.specs.Claims.{RoomForM, Within32, hands_back}
 use Rattle.counts.proofs.ToCome.{no_more_than_m}
 use Rattle.counts.proofs.Claimed.{stays}

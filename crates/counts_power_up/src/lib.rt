@@ -7,6 +7,7 @@ ghost use Rattle.flash_flags.specs.Front.{WellFormed};
 ghost use Rattle.exchange.specs.Order.{run, operations};
 ghost use Rattle.exchange.specs.Decision.{decide_within};
 ghost use Rattle.exchange.specs.PowerUp.{worked, carry_out, operations_in};
+ghost use Rattle.exchange_steps.specs.Lent.{bytes, SameFlash};
 ghost use Rattle.image.specs.Verdict.{check_of};
 ghost use Rattle.numbers.specs.GivenBack.{reason_of};
 ghost use Rattle.power_up_decision.specs.Inner.{plan_of};
@@ -18,7 +19,8 @@ ghost use Rattle.counts_power_up.specs.Inner.{with_total, outside_answer, refuse
 
 use counts_row::RowAnswer;
 use exchange::Job;
-use flash::{Geometry, GeometryAnswer};
+use exchange_steps::FlashMut;
+use flash::GeometryAnswer;
 use numbers::{PowerUpRefusal, RowRefusal, TurnDownReason};
 use power_up::{Outcome, PowerUpAnswer};
 use power_up_decision::Plan;
@@ -76,50 +78,48 @@ fn refused(r: RowRefusal, total: u64) -> CountedAnswer
 }
 
 fn do_job(
-    g: Geometry,
+    f: &mut FlashMut,
     job: Job,
     reason: TurnDownReason,
-    boot: &mut [u8],
-    update: &mut [u8],
-    swap: &mut [u8],
     budget: u64,
     row: &mut [u32],
 ) -> PowerUpAnswer
-    requires { (Shaped g (flash boot.old update.old swap.old)) × (WellFormed g update.old) × (length row.old ≡ row_length g)
-        × (Within32 (raised g (operations job g budget 0 (flash boot.old update.old swap.old)) row.old)) }
-    ensures { (answered result (flash boot.new update.new swap.new)
-        ≡ worked check_of g job (reason_of reason) (run job g budget 0 (flash boot.old update.old swap.old)))
-        × (row.new ≡ raised g (operations job g budget 0 (flash boot.old update.old swap.old)) row.old) }
+    requires { (Shaped f.old.geometry (bytes f.old)) × (WellFormed f.old.geometry f.old.update.now)
+        × (length row.old ≡ row_length f.old.geometry)
+        × (Within32 (raised f.old.geometry (operations job f.old.geometry budget 0 (bytes f.old)) row.old)) }
+    ensures same { SameFlash f.old f.new }
+    ensures answer { (answered result (bytes f.new)
+        ≡ worked check_of f.old.geometry job (reason_of reason) (run job f.old.geometry budget 0 (bytes f.old)))
+        × (row.new ≡ raised f.old.geometry (operations job f.old.geometry budget 0 (bytes f.old)) row.old) }
 {
-    let end = counts_steps::repeat_counted(g, job, boot, update, swap, budget, row);
+    let end = counts_steps::repeat_counted(f, job, budget, row);
     let left = end.left;
+    let boot = &mut *f.boot;
+    let update = &mut *f.update;
     PowerUpAnswer {
-        outcome: power_up::outcome_at(g, job, end, boot, update),
+        outcome: power_up::outcome_at(f.geometry, job, end, boot, update),
         reason,
         count: budget - left,
     }
 }
 
 // What was decided, done.
-fn carry_out(
-    g: Geometry,
-    plan: Plan,
-    boot: &mut [u8],
-    update: &mut [u8],
-    swap: &mut [u8],
-    budget: u64,
-    row: &mut [u32],
-) -> PowerUpAnswer
-    requires { (Shaped g (flash boot.old update.old swap.old)) × (plan_of plan ≡ decide_within check_of g boot.old update.old)
-        × (length row.old ≡ row_length g) × (RoomForM g row.old) }
-    ensures { (answered result (flash boot.new update.new swap.new)
-        ≡ carry_out check_of g (flash boot.old update.old swap.old) budget (plan_of plan))
-        × (row.new ≡ raised g (operations_in g (flash boot.old update.old swap.old) budget (plan_of plan)) row.old) }
+fn carry_out(f: &mut FlashMut, plan: Plan, budget: u64, row: &mut [u32]) -> PowerUpAnswer
+    requires { (Shaped f.old.geometry (bytes f.old))
+        × (plan_of plan ≡ decide_within check_of f.old.geometry f.old.boot.now f.old.update.now)
+        × (length row.old ≡ row_length f.old.geometry) × (RoomForM f.old.geometry row.old) }
+    ensures same { SameFlash f.old f.new }
+    ensures answer { (answered result (bytes f.new)
+        ≡ carry_out check_of f.old.geometry (bytes f.old) budget (plan_of plan))
+        × (row.new ≡ raised f.old.geometry (operations_in f.old.geometry (bytes f.old) budget (plan_of plan)) row.old) }
 {
     match plan {
         Plan::Refuse(refusal) => power_up::idle(Outcome::Refused(refusal)),
-        Plan::Plain => power_up::idle(power_up::if_boot_good(g, Outcome::Run, boot)),
-        Plan::Work(job, reason) => do_job(g, job, reason, boot, update, swap, budget, row),
+        Plan::Plain => {
+            let boot = &mut *f.boot;
+            power_up::idle(power_up::if_boot_good(f.geometry, Outcome::Run, boot))
+        }
+        Plan::Work(job, reason) => do_job(f, job, reason, budget, row),
     }
 }
 
@@ -138,10 +138,16 @@ pub fn power_up_counted(
         result (flash boot.new update.new swap.new) row.new }
 {
     match flash::check_flash(sectors, size, boot, update, swap) {
-        GeometryAnswer::Fits(g) => match counts_row::check_row(g, row, total) {
+        GeometryAnswer::Fits(geometry) => match counts_row::check_row(geometry, row, total) {
             RowAnswer::Counts => {
-                let plan = power_up_decision::decide(g, boot, update);
-                let a = carry_out(g, plan, boot, update, swap, budget, row);
+                let plan = power_up_decision::decide(geometry, boot, update);
+                let mut f = FlashMut {
+                    geometry,
+                    boot,
+                    update,
+                    swap,
+                };
+                let a = carry_out(&mut f, plan, budget, row);
                 let sum = counts_row::sum_of(row);
                 with_total(a, sum)
             }

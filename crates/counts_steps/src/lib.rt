@@ -3,10 +3,11 @@
 
 ghost use Rattle.std.specs.Prelude.{◌≡◌, ◌<◌, ◌≤◌, length};
 ghost use Rattle.flash.specs.Sizes.{firmware};
-ghost use Rattle.flash.specs.Buffers.{flash, Shaped};
+ghost use Rattle.flash.specs.Buffers.{Shaped};
 ghost use Rattle.flash_flags.specs.Front.{WellFormed};
 ghost use Rattle.exchange.specs.Order.{run, operations};
 ghost use Rattle.exchange_front.specs.Carried.{next_at, Current};
+ghost use Rattle.exchange_steps.specs.Lent.{bytes, SameFlash};
 ghost use Rattle.exchange_steps.specs.Inner.{ran};
 ghost use Rattle.counts.specs.Row.{row_length, raised};
 ghost use Rattle.counts.specs.Claims.{Within32};
@@ -14,53 +15,39 @@ ghost use Rattle.counts_steps.specs.Inner.{RoomForNext, CountedSteps};
 
 use exchange::{Job, Next};
 use exchange_front::Progress;
-use exchange_steps::StepAnswer;
-use flash::Geometry;
+use exchange_steps::{FlashMut, StepAnswer};
 
 // The single step, and its erase counted. The counted power-up changes the flash and the row by this function alone.
-pub fn do_next_counted(
-    g: Geometry,
-    job: Job,
-    at: Progress,
-    boot: &mut [u8],
-    update: &mut [u8],
-    swap: &mut [u8],
-    row: &mut [u32],
-) -> StepAnswer
-    requires { (Shaped g (flash boot.old update.old swap.old)) × (at.front.0 ≤ firmware g) × (0 < at.left) × (length row.old ≡ row_length g)
-        × (RoomForNext g (next_at job g at boot.old update.old) row.old) }
-    ensures { CountedSteps job g at (flash boot.old update.old swap.old) row.old
-        result (flash boot.new update.new swap.new) row.new }
+pub fn do_next_counted(f: &mut FlashMut, job: Job, at: Progress, row: &mut [u32]) -> StepAnswer
+    requires { (Shaped f.old.geometry (bytes f.old)) × (at.front.0 ≤ firmware f.old.geometry) × (0 < at.left)
+        × (length row.old ≡ row_length f.old.geometry)
+        × (RoomForNext f.old.geometry (next_at job f.old.geometry at f.old.boot.now f.old.update.now) row.old) }
+    ensures same { SameFlash f.old f.new }
+    ensures step { CountedSteps job f.old.geometry at (bytes f.old) row.old result (bytes f.new) row.new }
 {
-    let step = exchange_steps::do_next(g, job, at, boot, update, swap);
+    let step = f.do_next(job, at);
     let next = step.next;
     match next {
-        Next::Do(op) => counts_row::count_done(g, op, row),
+        Next::Do(op) => counts_row::count_done(f.geometry, op, row),
         Next::Nothing => {}
     }
     step
 }
 
 // Counted steps, until nothing is next or the budget is used up.
-pub fn repeat_counted(
-    g: Geometry,
-    job: Job,
-    boot: &mut [u8],
-    update: &mut [u8],
-    swap: &mut [u8],
-    budget: u64,
-    row: &mut [u32],
-) -> Progress
-    requires { (Shaped g (flash boot.old update.old swap.old)) × (WellFormed g update.old) × (length row.old ≡ row_length g)
-        × (Within32 (raised g (operations job g budget 0 (flash boot.old update.old swap.old)) row.old)) }
-    ensures { (ran budget result (flash boot.new update.new swap.new)
-        ≡ run job g budget 0 (flash boot.old update.old swap.old))
-        × (row.new ≡ raised g (operations job g budget 0 (flash boot.old update.old swap.old)) row.old)
-        × (Current g update.new result) × (result.left ≤ budget) }
+pub fn repeat_counted(f: &mut FlashMut, job: Job, budget: u64, row: &mut [u32]) -> Progress
+    requires { (Shaped f.old.geometry (bytes f.old)) × (WellFormed f.old.geometry f.old.update.now)
+        × (length row.old ≡ row_length f.old.geometry)
+        × (Within32 (raised f.old.geometry (operations job f.old.geometry budget 0 (bytes f.old)) row.old)) }
+    ensures same { SameFlash f.old f.new }
+    ensures steps { (ran budget result (bytes f.new) ≡ run job f.old.geometry budget 0 (bytes f.old))
+        × (row.new ≡ raised f.old.geometry (operations job f.old.geometry budget 0 (bytes f.old)) row.old)
+        × (Current f.old.geometry f.new.update.now result) × (result.left ≤ budget) }
 {
-    let mut at = exchange_front::begin(g, update, budget);
+    let update = &mut *f.update;
+    let mut at = exchange_front::begin(f.geometry, update, budget);
     while 0 < at.left {
-        let step = do_next_counted(g, job, at, boot, update, swap, row);
+        let step = do_next_counted(f, job, at, row);
         let next = step.next;
         match next {
             Next::Do(_) => {

@@ -2,17 +2,16 @@
 use mathlib.Core.Path.{◌≡◌, refl, sym, ap, ap₂, ◌∙◌, subst}
 use mathlib.Core.Bool.{Bool, true, false, cond, ◌&&◌}
 use mathlib.Core.List.{List, [], ◌∷◌}
-use mathlib.Core.Option.{Option, none, some}
 use Prim.Native.Nat.{ℕ, zero, suc, ◌+◌, ◌-◌, ◌*◌, ◌/◌, ◌%◌, ◌≤◌, ◌<◌, min}
 use native.Mathlib.Omega.{arith}
 use lib.ListN.{get_or}
 use lib.Dec.{leb, ltb, eqb}
 use borrow.Author.Tests.{eqb-true, lt-leb, le-leb, lt-ltb, le-ltb}
+use Rattle.std.specs.Prelude.{Option, Some, None}
 use Rattle.numbers.specs.Answer.{Answer, gives, refused, no_reason, Refusal, number_of}
-use Rattle.exchange.specs.Base.{BootStatus, BootNew, Testing, Success, UpdateStatus, UpdateNew, Updating, Flag, Known, Flags, Malformed, AllF, At, All0}
+use Rattle.exchange.specs.declared.Operation.{Operation}
+use Rattle.exchange.specs.Base.{BootStatus, BootNew, Testing, Success, UpdateStatus, UpdateNew, Updating, Flag, Flags, Malformed, AllF, At, All0}
 use Rattle.exchange.specs.Base.{firmware, Limits, Flash, Shaped, fits, boot_status_at, update_status_at, moved, flag_value, flag_of, flag_byte, half, flag_at, flags_from, flags, all_f, past_zeros, flags_shown, flags_at}
-use Rattle.exchange.specs.declared.Next.{Next}
-use Rattle.exchange.specs.declared.Next.TheVariants.{Do, Nothing}
 use Rattle.exchange.specs.declared.Job.TheVariants.{Update}
 use Rattle.exchange.specs.Order.{next_operation, Run, run}
 use Rattle.exchange.specs.Decision.{Check, work, decide_by, decide}
@@ -80,11 +79,11 @@ update_left fallback q = UpdateNew
 
 -- ---- a half byte that reads as v is v's value
 
-read_back : (h : ℕ) (v : Flag) → flag_of h ≡ Known v → h ≡ flag_value v
+read_back : (h : ℕ) (v : Flag) → flag_of h ≡ Some v → h ≡ flag_value v
 unfolding flag_of
 read_back h v e = by (eqb h 15) refl
   where
-    value : (w : Flag) → Known w ≡ Known v → flag_value w ≡ flag_value v
+    value : (w : Flag) → Some w ≡ Some v → flag_value w ≡ flag_value v
     value w k = let e : w ≡ v = cc in ap flag_value e
 
     by₀ : (t : Bool) → eqb h 0 ≡ t → eqb h 3 ≡ false → eqb h 7 ≡ false → eqb h 15 ≡ false → h ≡ flag_value v
@@ -104,7 +103,7 @@ read_back h v e = by (eqb h 15) refl
     by false d = by₇ (eqb h 7) refl d
 
 -- the flag byte by the two flags
-byte_by_flags : (u : List ℕ) (v w : Flag) → flag_at three u 0 ≡ Known v → flag_at three u 1 ≡ Known w → get_or u 766 0 ≡ flag_value v + 16 * flag_value w
+byte_by_flags : (u : List ℕ) (v w : Flag) → flag_at three u 0 ≡ Some v → flag_at three u 1 ≡ Some w → get_or u 766 0 ≡ flag_value v + 16 * flag_value w
 unfolding flag_at flag_byte half
 byte_by_flags u v w e₀ e₁ =
     let h₀ : get_or u 766 0 % 16 ≡ flag_value v = read_back (get_or u 766 0 % 16) v e₀ in
@@ -140,8 +139,8 @@ left_closed x b u fallen_back_lem = record { boot = refl; update = refl }
 -- ---- what a case says agrees with the numbers
 
 abbrev ByteAgrees : Option ℕ → ℕ → ℕ → Type 0
-ByteAgrees none l q = Unit {0}
-ByteAgrees (some b) l q = (0 < q) × (byte_left l q ≡ b)
+ByteAgrees None l q = Unit {0}
+ByteAgrees (Some b) l q = (0 < q) × (byte_left l q ≡ b)
 
 record Predicted (x : Exchange) (l r : ℕ) (bs : List ℕ) (y : Leaves) : Type 0 where
   goes : going l r bs ≡ true
@@ -187,12 +186,12 @@ module _ (check : Check) (old : Flash) (G : Limits three) {x : Exchange} {b₀ :
       by : (q : ℕ) → suc r - w.count ≡ q → Stage (Decides check three B) three old B w.flash w.phase q → goal
       by zero e y =
           rw (le-ltb b (suc r) (omega (arith, v.counted)))
-          (ap₂ (λ (o : Next) (z : Answer ℕ). outcome_by o (job_of x) z) (ended three G old B w.flash w.phase y)
+          (ap₂ (λ (o : Option Operation) (z : Answer ℕ). outcome_by o (job_of x) z) (ended three G old B w.flash w.phase y)
           (end_good check three G old B I w.flash w.phase y).good)
       by (suc q) e y = cuts (step three G old B w.flash w.phase q y)
         where
           cuts : Stepped (Decides check three B) three old B w.flash w.phase q → goal
-          cuts (stepped o n s' torn) = rw (lt-ltb b (suc r) (omega (arith, v.counted))) (ap (λ (z : Next). outcome_by z (job_of x) (check three w.flash.boot)) n)
+          cuts (stepped o n s' torn) = rw (lt-ltb b (suc r) (omega (arith, v.counted))) (ap (λ (z : Option Operation). outcome_by z (job_of x) (check three w.flash.boot)) n)
 
   one : (f : Flash) (r b : ℕ) → Stage (Decides check three B) three old B f 0 (suc r) → One f (suc r) b (power_up check three f b)
   one f r b s =
@@ -224,7 +223,7 @@ module _ (check : Check) (old : Flash) (G : Limits three) {x : Exchange} {b₀ :
       let z : 3 * i + leg_moves leg - 3 * 0 ≡ 3 * i + leg_moves leg = omega arith in
       rw (lt-leb (suc q) (closing_left (closing B)) (omega (arith, two, leg_below leg)), e)
       (byte_by_flags f.update (moved (3 * i + leg_moves leg)) (moved (3 * i + leg_moves leg - 3))
-      (s.moves 0 (omega (arith, two)) ∙ ap (λ (a : ℕ). Known (moved a)) z) (s.moves 1 (omega (arith, two))))
+      (s.moves 0 (omega (arith, two)) ∙ ap (λ (a : ℕ). Some (moved a)) z) (s.moves 1 (omega (arith, two))))
   byte_of f q (at_last b u c le s e₁ e₂ n z) =
       rw (le-leb (suc q) (closing_left (closing B)) (omega (arith, top b u c)))
       (byte_by_flags f.update (moved 3) (moved 3) (s.flags0 0 (omega (arith, two))) (s.flags0 1 (omega (arith, two))))
@@ -244,9 +243,9 @@ module _ (check : Check) (old : Flash) (G : Limits three) {x : Exchange} {b₀ :
   status_of f q (at_end b u c y s e₁ e₂ n z) = statuses_at f q b u e₁ e₂ (subst (Statuses x b u) (sym n) (left_closed x b u c))
 
   byte_is : (b : Option ℕ) (f : Flash) (q : ℕ) → ByteAgrees b (closing_left (closing B)) q → Stage (Decides check three B) three old B f 0 q → FlagByteIs b f
-  byte_is none f q h s = tt
-  byte_is (some b) f zero h s = absurd (omega (arith, h.0))
-  byte_is (some b) f (suc q) h s = byte_of f q s ∙ h.1
+  byte_is None f q h s = tt
+  byte_is (Some b) f zero h s = absurd (omega (arith, h.0))
+  byte_is (Some b) f (suc q) h s = byte_of f q s ∙ h.1
 
   -- a case, by what the numbers predict
   predicted : (bs : List ℕ) (y : Leaves) → Stage (Decides check three B) three old B old 0 (18 + closing_left (closing B))
@@ -309,10 +308,10 @@ outcome_number runs = 0
 outcome_number runs_on_test = 0
 outcome_number runs_fallen_back = 0
 
-not_11 : (o : Next) (v : Answer ℕ) (r : Refusal) → number_of r ≡ 11 → outcome_by o Update v ≡ refusal r → ⊥
-not_11 Nothing (gives v) r n e = omega (arith, ap outcome_number e ∙ n)
-not_11 Nothing (refused m q) r n e = omega (arith, ap outcome_number e ∙ n)
-not_11 (Do o) v r n e = omega (arith, ap outcome_number e ∙ n)
+not_11 : (o : Option Operation) (v : Answer ℕ) (r : Refusal) → number_of r ≡ 11 → outcome_by o Update v ≡ refusal r → ⊥
+not_11 None (gives v) r n e = omega (arith, ap outcome_number e ∙ n)
+not_11 None (refused m q) r n e = omega (arith, ap outcome_number e ∙ n)
+not_11 (Some o) v r n e = omega (arith, ap outcome_number e ∙ n)
 
 -- an exchange that has begun
 abbrev Resumes : Flags → Type 0

@@ -6,11 +6,11 @@ use Prim.Native.Nat.{ℕ, zero, suc, ◌+◌, ◌-◌, ◌*◌, ◌≤◌, ◌<�
 use native.Mathlib.Decide.{dec_lt}
 use native.Mathlib.Omega.{arith}
 use lib.ListN.{length}
+use Rattle.std.specs.Prelude.{Option, None}
 use Rattle.numbers.specs.Answer.{Answer, no_reason, numbered}
+use Rattle.exchange.specs.declared.Operation.{Operation}
 use Rattle.exchange.specs.Base.{Geometry, BootStatus, UpdateStatus}
 use Rattle.exchange.specs.Base.{firmware, partition_size, Limits, Flash, Shaped, fits}
-use Rattle.exchange.specs.declared.Next.{Next}
-use Rattle.exchange.specs.declared.Next.TheVariants.{Nothing}
 use Rattle.exchange.specs.declared.Area.TheVariants.{Boot, Update}
 use Rattle.exchange.specs.Operations.{get}
 use Rattle.exchange.specs.Order.{next_operation, Run, run}
@@ -63,7 +63,7 @@ module _ (check : Check) (g : Geometry) (G : Limits g) (old : Flash) {x : Exchan
     unfolding power_up
     refuses k = ap (carry_out check g' f k) (outside_decided check g' f w)
 
-    no_next : (k : ℕ) → next_after check g' f k ≡ Nothing
+    no_next : (k : ℕ) → next_after check g' f k ≡ None
     unfolding next_after
     no_next k = ap (next_in g' f k) (outside_decided check g' f w)
 
@@ -83,7 +83,7 @@ module _ (check : Check) (g : Geometry) (G : Limits g) (old : Flash) {x : Exchan
           pays = record {
             rest = suc r;
             stage = subst (λ (y : Flash). Stage (Decides check g B) g old B y 0 (suc r))
-                (sym (ap₂ (λ (o : Next) (a : PowerUp). tear_next g' t o a.flash) (no_next k) (refuses k))) s;
+                (sym (ap₂ (λ (o : Option Operation) (a : PowerUp). tear_next g' t o a.flash) (no_next k) (refuses k))) s;
             paid = omega arith;
           };
           moves = tt;
@@ -151,13 +151,13 @@ module _ (check : Check) (g : Geometry) (G : Limits g) (old : Flash) {x : Exchan
         by : (q : ℕ) → Stage (Decides check g B) g old B w.flash w.phase q → goal
         by zero y =
             inr (
-              ap₂ (λ (o : Next) (z : Answer ℕ). outcome_by o (job_of x) z) (ended g G old B w.flash w.phase y) (end_good w.flash w.phase y).good,
+              ap₂ (λ (o : Option Operation) (z : Answer ℕ). outcome_by o (job_of x) z) (ended g G old B w.flash w.phase y) (end_good w.flash w.phase y).good,
               end_of g old B w.flash w.phase y,
             )
         by (suc q) y = cuts (step g G old B w.flash w.phase q y)
           where
             cuts : Stepped (Decides check g B) g old B w.flash w.phase q → goal
-            cuts (stepped o n s' torn) = inl (ap (λ (z : Next). outcome_by z (job_of x) (check g w.flash.boot)) n, unfinished g old B w.flash w.phase q y)
+            cuts (stepped o n s' torn) = inl (ap (λ (z : Option Operation). outcome_by z (job_of x) (check g w.flash.boot)) n, unfinished g old B w.flash w.phase q y)
 
     moves_untorn : (b : ℕ) → 3 ≤ b → Finished x g (run (job_of x) g b 0 f).flash ⊎ FlagMovedOn g f (run (job_of x) g b 0 f).flash
     moves_untorn b h = by (run (job_of x) g b 0 f) (walked g G old B b f 0 (suc r) s)
@@ -192,7 +192,7 @@ module _ (check : Check) (g : Geometry) (G : Limits g) (old : Flash) {x : Exchan
         let z : k ≤ (run (job_of x) g b 0 f).count = subst (λ (a : PowerUp). k ≤ a.count) (works b) h in
         record {
           pays = subst (λ (y : Flash). Paid (suc r) (left_lost k y))
-              (sym (ap₂ (λ (o : Next) (a : PowerUp). tear_next g t o a.flash) (next_in_lem k) (works k)))
+              (sym (ap₂ (λ (o : Option Operation) (a : PowerUp). tear_next g t o a.flash) (next_in_lem k) (works k)))
               (pays_lost k t (run (job_of x) g k 0 f) T (omega (arith, (walked g G old B b f 0 (suc r) s).counted)) (walked g G old B k f 0 (suc r) s));
           moves = tt;
           says = tt;

@@ -4,15 +4,15 @@ use mathlib.Core.List.{List, [], ◌∷◌}
 use Prim.Native.Nat.{ℕ, zero, suc, ◌+◌, ◌-◌, ◌*◌, ◌≤◌}
 use native.Mathlib.Omega.{arith}
 use lib.ListN.{length}
+use Rattle.std.specs.Prelude.{Option, Some}
 use Rattle.numbers.specs.Answer.{gives, no_reason, numbered}
+use Rattle.exchange.specs.declared.Operation.{Operation}
 use Rattle.exchange.specs.Base.{Geometry, BootStatus, UpdateStatus, UpdateToSwap, AllF}
 use Rattle.exchange.specs.Base.{geometry, firmware, Limits, sector_number, Flash, flash, fits, boot_status_at, update_status_at, flags_at}
 use Rattle.flash.specs.Sizes.{within_limits}
 use Rattle.flash.specs.Buffers.{partition_fits}
 use Rattle.exchange.specs.declared.Area.TheVariants.{Swap}
 use Rattle.exchange.specs.declared.Operation.TheVariants.{Erase, Copy}
-use Rattle.exchange.specs.declared.Next.{Next}
-use Rattle.exchange.specs.declared.Next.TheVariants.{Do}
 use Rattle.exchange.specs.Operations.{perform}
 use Rattle.exchange.specs.Order.{next_operation, Run, run}
 use Rattle.exchange.specs.Decision.{Check, decide}
@@ -64,7 +64,7 @@ module _ (check : Check) (g : Geometry) (G : Limits g) (old : Flash) {x : Exchan
     unfolding run
     first_run = run_some (job_of x) g 0 0 old (Erase Swap (sector_number 0)) (next_leg g x b₀ u₀ B 0 0 UpdateToSwap old e₁ e₂ e₃)
 
-    copy_next : next_after check g old 1 ≡ Do (Copy UpdateToSwap (sector_number 0))
+    copy_next : next_after check g old 1 ≡ Some (Copy UpdateToSwap (sector_number 0))
     copy_next =
         next_in_lem check g G old B I old r s 1 ∙ ap (λ (w : Run). next_operation (job_of x) g w.phase w.flash) first_run
         ∙ next_leg g x b₀ u₀ B 1 0 UpdateToSwap (perform g (Erase Swap (sector_number 0)) old) e₁ e₂ e₃
@@ -72,7 +72,7 @@ module _ (check : Check) (g : Geometry) (G : Limits g) (old : Flash) {x : Exchan
     torn_left : (t : Torn) (budget : ℕ) → (left check old (lost g budget 1 t)).flash ≡ flash old.boot old.update t.bytes
     unfolding left
     torn_left t budget =
-        ap₂ (λ (o : Next) (y : Flash). tear_next g t o y) copy_next
+        ap₂ (λ (o : Option Operation) (y : Flash). tear_next g t o y) copy_next
         (ap (λ (a : PowerUp). a.flash) (works check g G old B I old r s 1) ∙ ap (λ (w : Run). w.flash) first_run)
 
     same_finish : (y : List ℕ) → Finished x g (flash old.boot old.update y) → Finished x g old

@@ -7,13 +7,12 @@ use Prim.Native.Nat.{ℕ, zero, suc, ◌≤◌}
 use native.Mathlib.Omega.{arith}
 use lib.ListN.{length, take}
 use lib.Dec.{ltb}
+use Rattle.std.specs.Prelude.{Option, Some, None, option_to_list}
 use Rattle.numbers.specs.Answer.{Answer, gives, refused, Refusal, numbered, inside, number_of, Reason, no_reason, because}
 use Rattle.exchange.specs.Base.{Geometry, SectorNumber, BootStatus, BootNew, Testing, Success, UpdateStatus, UpdateNew, Updating, Leg, UpdateToSwap, Flags, Malformed, AllF, At, All0}
 use Rattle.exchange.specs.Base.{sector_number, Flash, Shaped, fits, status_byte, boot_status_of, boot_status_at, update_status_of, update_status_at, flags_at}
 use Rattle.exchange.specs.declared.Operation.{Operation}
 use Rattle.exchange.specs.declared.Operation.TheVariants.{Erase, EraseUpdateTrailer}
-use Rattle.exchange.specs.declared.Next.{Next}
-use Rattle.exchange.specs.declared.Next.TheVariants.{Do, Nothing}
 use Rattle.exchange.specs.declared.Job.{Job}
 use Rattle.exchange.specs.declared.Job.TheVariants.{Update, Fallback, TurnDown}
 use Rattle.exchange.specs.Operations.{target, perform, perform_all}
@@ -21,7 +20,7 @@ use Rattle.exchange.specs.Order.{next_operation, Run, stopped, one_more, run}
 use Rattle.exchange.specs.Decision.{Check, Good, Plan, refuse, plain, work, accept, accept_fallback, decide_update, decide_fallback, decide_closing, decide_by, decide_statuses, decide_within, decide}
 use Rattle.exchange.specs.PowerUp.{Outcome, refusal, cut, runs, runs_on_test, runs_fallen_back, PowerUp, if_boot_good, done_outcome, outcome_by, idle, carry_out, power_up, operations_in, operations_of, next_in, next_after}
 use Rattle.exchange.specs.Demand.{Exchange, update, fallback, job_of, Starts, Underway, from_new, from_success, from_testing}
-use Rattle.exchange.specs.RuledOut.{Reads, StatusBad, in_boot, in_update, IsRun, ToldOf, on_test, fallen_back, as_plain, as_list, BadBoot, bad_boot, TurnedDown, BeforeWork, outside_rules, status_not_allowed, flags_not_well_formed, no_good_fallback, RefusedBefore, RuledOut}
+use Rattle.exchange.specs.RuledOut.{Reads, StatusBad, in_boot, in_update, IsRun, ToldOf, on_test, fallen_back, as_plain, BadBoot, bad_boot, TurnedDown, BeforeWork, outside_rules, status_not_allowed, flags_not_well_formed, no_good_fallback, RefusedBefore, RuledOut}
 use Rattle.flash.proofs.Checked.{shaped_of}
 use Rattle.flash_status.proofs.Ten.{boot_refused, update_refused}
 use Rattle.flash_flags.proofs.Laws.{update_erased}
@@ -99,14 +98,14 @@ all_0_updates Success y z = refl
 -- ---- the top of a leg
 
 erases_first : (x : Exchange) (g : Geometry) (f : Flash) (b : BootStatus) (u : UpdateStatus) (i : SectorNumber) (leg : Leg) → Underway x b u → Reads g f b u (At i leg)
-    → next_operation (job_of x) g 0 f ≡ Do (Erase (target leg) i)
+    → next_operation (job_of x) g 0 f ≡ Some (Erase (target leg) i)
 erases_first x g f b u i leg from_new r = next_by_reads (job_of x) g 0 f b u (At i leg) r.boot r.update r.flags
 erases_first x g f b u i leg from_success r = next_by_reads (job_of x) g 0 f b u (At i leg) r.boot r.update r.flags
 erases_first x g f b u i leg from_testing r = next_by_reads (job_of x) g 0 f b u (At i leg) r.boot r.update r.flags
 
 -- one operation, where the work is decided and its first operation known
 does_first : (check : Check) (x : Exchange) (g : Geometry) (f : Flash) (o : Operation) → decide check g f ≡ work (job_of x) no_reason
-    → next_operation (job_of x) g 0 f ≡ Do o → (power_up check g f 1).flash ≡ perform g o f
+    → next_operation (job_of x) g 0 f ≡ Some o → (power_up check g f 1).flash ≡ perform g o f
 unfolding run
 does_first check x g f o d n =
     ap (λ (a : PowerUp). a.flash) (power_up_works check g f 1 (job_of x) no_reason d) ∙ ap (λ (a : Run). a.flash) (run_some (job_of x) g 0 0 f o n)
@@ -118,7 +117,7 @@ top check x g f b u i leg w r =
     (reads_decide check g f b u (At i leg) r ∙ resumed w i leg (check g f.update) (check g f.boot)) (erases_first x g f b u i leg w r)
 
 erases_swap : (x : Exchange) (g : Geometry) (f : Flash) (b : BootStatus) (u : UpdateStatus) → Underway x b u → boot_status_at g f.boot ≡ gives b
-    → update_status_at g f.update ≡ gives u → flags_at g f.update ≡ AllF → next_operation (job_of x) g 0 f ≡ Do (Erase (target UpdateToSwap) (sector_number 0))
+    → update_status_at g f.update ≡ gives u → flags_at g f.update ≡ AllF → next_operation (job_of x) g 0 f ≡ Some (Erase (target UpdateToSwap) (sector_number 0))
 erases_swap x g f b u from_new e₁ e₂ e₃ = next_by_reads (job_of x) g 0 f b u AllF e₁ e₂ e₃
 erases_swap x g f b u from_success e₁ e₂ e₃ = next_by_reads (job_of x) g 0 f b u AllF e₁ e₂ e₃
 erases_swap x g f b u from_testing e₁ e₂ e₃ = next_by_reads (job_of x) g 0 f b u AllF e₁ e₂ e₃
@@ -174,12 +173,12 @@ first_ones_lem : (check : Check) (g : Geometry) (f : Flash) (k budget : ℕ) →
 unfolding operations_of
 first_ones_lem check g f k budget h = first_in g f k budget (decide check g f) h
 
-next_in_list : (g : Geometry) (f : Flash) (k : ℕ) (y : Plan) → operations_in g f (suc k) y ≡ operations_in g f k y ++ as_list (next_in g f k y)
+next_in_list : (g : Geometry) (f : Flash) (k : ℕ) (y : Plan) → operations_in g f (suc k) y ≡ operations_in g f k y ++ option_to_list (next_in g f k y)
 next_in_list g f k (refuse r) = refl
 next_in_list g f k plain = refl
 next_in_list g f k (work job why) = operations_next job g k 0 f
 
-next_one_lem : (check : Check) (g : Geometry) (f : Flash) (k : ℕ) → operations_of check g f (suc k) ≡ operations_of check g f k ++ as_list (next_after check g f k)
+next_one_lem : (check : Check) (g : Geometry) (f : Flash) (k : ℕ) → operations_of check g f (suc k) ≡ operations_of check g f k ++ option_to_list (next_after check g f k)
 unfolding operations_of next_after
 next_one_lem check g f k = next_in_list g f k (decide check g f)
 
@@ -191,25 +190,25 @@ module _ (check : Check) (g : Geometry) (f : Flash) (budget : ℕ) (job : Job) (
   next_of = ap (next_in g f budget) e
 
   -- the outcome, by what is next and by the check of BOOT
-  told : (n : Next) (y : Answer ℕ) → next_after check g f budget ≡ n → check g (power_up check g f budget).flash.boot ≡ y
+  told : (n : Option Operation) (y : Answer ℕ) → next_after check g f budget ≡ n → check g (power_up check g f budget).flash.boot ≡ y
       → (power_up check g f budget).outcome ≡ outcome_by n job y
   told n y en ey =
       let w = power_up_works check g f budget job why e in
       ap (λ (a : PowerUp). a.outcome) w
-      ∙ ap₂ (λ (m : Next) (z : Answer ℕ). outcome_by m job z) (sym next_of ∙ en) (sym (ap (λ (a : PowerUp). check g a.flash.boot) w) ∙ ey)
+      ∙ ap₂ (λ (m : Option Operation) (z : Answer ℕ). outcome_by m job z) (sym next_of ∙ en) (sym (ap (λ (a : PowerUp). check g a.flash.boot) w) ∙ ey)
 
-  left_is_cut_lem : (o : Operation) → next_after check g f budget ≡ Do o → (power_up check g f budget).outcome ≡ cut
-  left_is_cut_lem o en = told (Do o) _ en refl
+  left_is_cut_lem : (o : Operation) → next_after check g f budget ≡ Some o → (power_up check g f budget).outcome ≡ cut
+  left_is_cut_lem o en = told (Some o) _ en refl
 
-  done_bad_lem : (n p : ℕ) → next_after check g f budget ≡ Nothing → check g (power_up check g f budget).flash.boot ≡ refused n p
+  done_bad_lem : (n p : ℕ) → next_after check g f budget ≡ None → check g (power_up check g f budget).flash.boot ≡ refused n p
       → (power_up check g f budget).outcome ≡ refusal (inside 12 n p)
-  done_bad_lem n p en ey = told Nothing (refused n p) en ey
+  done_bad_lem n p en ey = told None (refused n p) en ey
 
-  done_good_lem : (v : ℕ) → next_after check g f budget ≡ Nothing → check g (power_up check g f budget).flash.boot ≡ gives v
+  done_good_lem : (v : ℕ) → next_after check g f budget ≡ None → check g (power_up check g f budget).flash.boot ≡ gives v
       → ToldOf job (power_up check g f budget).outcome
-  done_good_lem v en ey = subst (ToldOf job) (sym (told Nothing (gives v) en ey)) (by job)
+  done_good_lem v en ey = subst (ToldOf job) (sym (told None (gives v) en ey)) (by job)
     where
-      by : (j : Job) → ToldOf j (outcome_by Nothing j (gives v))
+      by : (j : Job) → ToldOf j (outcome_by None j (gives v))
       by Update = on_test
       by Fallback = fallen_back
       by TurnDown = as_plain
@@ -241,9 +240,9 @@ good_runs : (o : Outcome) (y : Answer ℕ) → IsRun (if_boot_good o y) → Good
 good_runs o (gives v) h = record { version = v; good = refl }
 good_runs o (refused n p) h = absurd h
 
-good_after : (o : Next) (job : Job) (y : Answer ℕ) → IsRun (outcome_by o job y) → Good y
-good_after (Do o) job y h = absurd h
-good_after Nothing job y h = good_runs (done_outcome job) y h
+good_after : (o : Option Operation) (job : Job) (y : Answer ℕ) → IsRun (outcome_by o job y) → Good y
+good_after (Some o) job y h = absurd h
+good_after None job y h = good_runs (done_outcome job) y h
 
 carried_good : (check : Check) (g : Geometry) (f : Flash) (budget : ℕ) (y : Plan) → IsRun (carry_out check g f budget y).outcome
     → Good (check g (carry_out check g f budget y).flash.boot)
@@ -456,9 +455,9 @@ no_refusal Update r e = let z : ◌≡◌ {A = ℕ} 0 1 = cc in omega arith
 no_refusal Fallback r e = let z : ◌≡◌ {A = ℕ} 0 1 = cc in omega arith
 no_refusal TurnDown r e = let z : ◌≡◌ {A = ℕ} 0 1 = cc in omega arith
 
-twelve_after : (o : Next) (job : Job) (y : Answer ℕ) (r : Refusal) → outcome_by o job y ≡ refusal r → BadBoot y r
-twelve_after (Do o) job y r e = absurd (let z : ◌≡◌ {A = ℕ} 0 1 = cc in omega arith)
-twelve_after Nothing job y r e = twelve (done_outcome job) y r (no_refusal job) e
+twelve_after : (o : Option Operation) (job : Job) (y : Answer ℕ) (r : Refusal) → outcome_by o job y ≡ refusal r → BadBoot y r
+twelve_after (Some o) job y r e = absurd (let z : ◌≡◌ {A = ℕ} 0 1 = cc in omega arith)
+twelve_after None job y r e = twelve (done_outcome job) y r (no_refusal job) e
 
 -- a refusal comes before any operation, or is 12 of the flash that is left
 abbrev Refuses : Check → Geometry → Flash → Refusal → PowerUp → Type 0

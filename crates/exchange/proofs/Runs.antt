@@ -4,42 +4,40 @@ use mathlib.Core.List.{List, [], ◌∷◌, ◌++◌}
 use Prim.Native.Nat.{ℕ, zero, suc, ◌+◌, ◌≤◌}
 use native.Mathlib.Omega.{arith}
 use lib.ListN.{length, take}
+use Rattle.std.specs.Prelude.{Option, Some, None, option_to_list}
 use Rattle.numbers.specs.Answer.{Reason}
 use Rattle.exchange.specs.Base.{Geometry}
 use Rattle.exchange.specs.Base.{Flash}
 use Rattle.exchange.specs.declared.Operation.{Operation}
-use Rattle.exchange.specs.declared.Next.{Next}
-use Rattle.exchange.specs.declared.Next.TheVariants.{Do, Nothing}
 use Rattle.exchange.specs.declared.Job.{Job}
 use Rattle.exchange.specs.Operations.{perform, perform_all, phase_after}
 use Rattle.exchange.specs.Order.{next_operation, perform_next, step, Run, stopped, one_more, run, operations}
 use Rattle.exchange.specs.Decision.{Check, work, decide}
 use Rattle.exchange.specs.PowerUp.{worked, power_up}
-use Rattle.exchange.specs.RuledOut.{as_list}
 
 -- the step does what is next
-step_does : (job : Job) (g : Geometry) (p : ℕ) (f : Flash) (o : Operation) → next_operation job g p f ≡ Do o → (step job g p f).flash ≡ perform g o f
+step_does : (job : Job) (g : Geometry) (p : ℕ) (f : Flash) (o : Operation) → next_operation job g p f ≡ Some o → (step job g p f).flash ≡ perform g o f
 unfolding step
-step_does job g p f o e = ap (λ (n : Next). perform_next g n f) e
+step_does job g p f o e = ap (λ (n : Option Operation). perform_next g n f) e
 
-pub run_none : (job : Job) (g : Geometry) (k p : ℕ) (f : Flash) → next_operation job g p f ≡ Nothing → run job g k p f ≡ stopped p f
+pub run_none : (job : Job) (g : Geometry) (k p : ℕ) (f : Flash) → next_operation job g p f ≡ None → run job g k p f ≡ stopped p f
 unfolding run step
 run_none job g zero p f e = refl
 run_none job g (suc k) p f e = rw (run, e)
 
-pub run_some : (job : Job) (g : Geometry) (k p : ℕ) (f : Flash) (o : Operation) → next_operation job g p f ≡ Do o
+pub run_some : (job : Job) (g : Geometry) (k p : ℕ) (f : Flash) (o : Operation) → next_operation job g p f ≡ Some o
     → run job g (suc k) p f ≡ one_more (run job g k (phase_after o) (perform g o f))
 unfolding run step
 run_some job g k p f o e = rw (run, e) (ap (λ (h : Flash). one_more (run job g k (phase_after o) h)) (step_does job g p f o e))
 
 -- ---- what the run did, as a list
 
-pub operations_none : (job : Job) (g : Geometry) (k p : ℕ) (f : Flash) → next_operation job g p f ≡ Nothing → operations job g k p f ≡ []
+pub operations_none : (job : Job) (g : Geometry) (k p : ℕ) (f : Flash) → next_operation job g p f ≡ None → operations job g k p f ≡ []
 unfolding operations step
 operations_none job g zero p f e = refl
 operations_none job g (suc k) p f e = rw (operations, e)
 
-pub operations_some : (job : Job) (g : Geometry) (k p : ℕ) (f : Flash) (o : Operation) → next_operation job g p f ≡ Do o
+pub operations_some : (job : Job) (g : Geometry) (k p : ℕ) (f : Flash) (o : Operation) → next_operation job g p f ≡ Some o
     → operations job g (suc k) p f ≡ o ∷ operations job g k (phase_after o) (perform g o f)
 unfolding operations step
 operations_some job g k p f o e = rw (operations, e) (ap (λ (h : Flash). o ∷ operations job g k (phase_after o) h) (step_does job g p f o e))
@@ -53,11 +51,11 @@ unfolding run operations
 lists job g zero p f = record { counted = refl; left = refl }
 lists job g (suc k) p f = by (next_operation job g p f) refl (λ o. lists job g k (phase_after o) (perform g o f))
   where
-    by : (n : Next) → next_operation job g p f ≡ n
+    by : (n : Option Operation) → next_operation job g p f ≡ n
         → ((o : Operation) → Lists g (perform g o f) (operations job g k (phase_after o) (perform g o f)) (run job g k (phase_after o) (perform g o f)))
         → Lists g f (operations job g (suc k) p f) (run job g (suc k) p f)
-    by Nothing e ih = rw (run_none job g (suc k) p f e, operations_none job g (suc k) p f e) (record { counted = refl; left = refl })
-    by (Do o) e ih = rw (run_some job g k p f o e, operations_some job g k p f o e) (record { counted = ap suc (ih o).counted; left = (ih o).left })
+    by None e ih = rw (run_none job g (suc k) p f e, operations_none job g (suc k) p f e) (record { counted = refl; left = refl })
+    by (Some o) e ih = rw (run_some job g k p f o e, operations_some job g k p f o e) (record { counted = ap suc (ih o).counted; left = (ih o).left })
 
 pub run_count : (job : Job) (g : Geometry) (k p : ℕ) (f : Flash) → (run job g k p f).count ≡ length (operations job g k p f)
 run_count job g k p f = (lists job g k p f).counted
@@ -73,34 +71,34 @@ operations_first job g (suc k) zero p f h = absurd (omega arith)
 operations_first job g (suc k) (suc n) p f h =
     by (next_operation job g p f) refl (λ o. operations_first job g k n (phase_after o) (perform g o f) (omega arith))
   where
-    by : (m : Next) → next_operation job g p f ≡ m
+    by : (m : Option Operation) → next_operation job g p f ≡ m
         → ((o : Operation) → operations job g k (phase_after o) (perform g o f) ≡ take k (operations job g n (phase_after o) (perform g o f)))
         → operations job g (suc k) p f ≡ take (suc k) (operations job g (suc n) p f)
-    by Nothing e ih = rw (operations_none job g (suc k) p f e, operations_none job g (suc n) p f e)
-    by (Do o) e ih = rw (operations_some job g k p f o e, operations_some job g n p f o e) (ap (λ (os : List Operation). o ∷ os) (ih o))
+    by None e ih = rw (operations_none job g (suc k) p f e, operations_none job g (suc n) p f e)
+    by (Some o) e ih = rw (operations_some job g k p f o e, operations_some job g n p f o e) (ap (λ (os : List Operation). o ∷ os) (ih o))
 
 -- one step more does what is next
 pub operations_next : (job : Job) (g : Geometry) (k p : ℕ) (f : Flash)
-    → operations job g (suc k) p f ≡ operations job g k p f ++ as_list (next_operation job g (run job g k p f).phase (run job g k p f).flash)
+    → operations job g (suc k) p f ≡ operations job g k p f ++ option_to_list (next_operation job g (run job g k p f).phase (run job g k p f).flash)
 unfolding run operations
 operations_next job g zero p f = by (next_operation job g p f) refl
   where
-    by : (n : Next) → next_operation job g p f ≡ n → operations job g 1 p f ≡ as_list (next_operation job g p f)
-    by Nothing e = operations_none job g 1 p f e ∙ sym (ap as_list e)
-    by (Do o) e = operations_some job g 0 p f o e ∙ sym (ap as_list e)
+    by : (n : Option Operation) → next_operation job g p f ≡ n → operations job g 1 p f ≡ option_to_list (next_operation job g p f)
+    by None e = operations_none job g 1 p f e ∙ sym (ap option_to_list e)
+    by (Some o) e = operations_some job g 0 p f o e ∙ sym (ap option_to_list e)
 operations_next job g (suc k) p f = by (next_operation job g p f) refl (λ o. operations_next job g k (phase_after o) (perform g o f))
   where
     goal : Type 0
     goal = operations job g (suc (suc k)) p f
-        ≡ operations job g (suc k) p f ++ as_list (next_operation job g (run job g (suc k) p f).phase (run job g (suc k) p f).flash)
+        ≡ operations job g (suc k) p f ++ option_to_list (next_operation job g (run job g (suc k) p f).phase (run job g (suc k) p f).flash)
 
-    by : (n : Next) → next_operation job g p f ≡ n
+    by : (n : Option Operation) → next_operation job g p f ≡ n
         → ((o : Operation) → operations job g (suc k) (phase_after o) (perform g o f)
         ≡ operations job g k (phase_after o) (perform g o f)
-        ++ as_list (next_operation job g (run job g k (phase_after o) (perform g o f)).phase (run job g k (phase_after o) (perform g o f)).flash))
+        ++ option_to_list (next_operation job g (run job g k (phase_after o) (perform g o f)).phase (run job g k (phase_after o) (perform g o f)).flash))
         → goal
-    by Nothing e ih = rw (operations_none job g (suc (suc k)) p f e, operations_none job g (suc k) p f e, run_none job g (suc k) p f e, e) refl
-    by (Do o) e ih =
+    by None e ih = rw (operations_none job g (suc (suc k)) p f e, operations_none job g (suc k) p f e, run_none job g (suc k) p f e, e) refl
+    by (Some o) e ih =
         rw (operations_some job g (suc k) p f o e, operations_some job g k p f o e, run_some job g k p f o e)
         (ap (λ (os : List Operation). o ∷ os) (ih o))
 
@@ -112,9 +110,9 @@ unfolding run
 run_within job g zero p f = omega arith
 run_within job g (suc k) p f = by (next_operation job g p f) refl (λ o. run_within job g k (phase_after o) (perform g o f))
   where
-    by : (n : Next) → next_operation job g p f ≡ n → ((o : Operation) → (run job g k (phase_after o) (perform g o f)).count ≤ k) → (run job g (suc k) p f).count ≤ suc k
-    by Nothing e ih = rw (run_none job g (suc k) p f e) (omega arith)
-    by (Do o) e ih = rw (run_some job g k p f o e) (omega (arith, ih o))
+    by : (n : Option Operation) → next_operation job g p f ≡ n → ((o : Operation) → (run job g k (phase_after o) (perform g o f)).count ≤ k) → (run job g (suc k) p f).count ≤ suc k
+    by None e ih = rw (run_none job g (suc k) p f e) (omega arith)
+    by (Some o) e ih = rw (run_some job g k p f o e) (omega (arith, ih o))
 
 -- j steps and then k more are j + k steps
 abbrev pub and_then : Run → Run → Run
@@ -135,15 +133,15 @@ run_add job g (suc j) k p f = by (next_operation job g p f) refl (λ o. run_add 
     e : suc j + k ≡ suc (j + k)
     e = omega arith
 
-    by : (n : Next) → next_operation job g p f ≡ n
+    by : (n : Option Operation) → next_operation job g p f ≡ n
         → ((o : Operation) → run job g (j + k) (phase_after o) (perform g o f) ≡ both (run job g j (phase_after o) (perform g o f)))
         → run job g (suc j + k) p f ≡ both (run job g (suc j) p f)
-    by Nothing h ih =
+    by None h ih =
         run_none job g (suc j + k) p f h
         ∙ none_added p f (record { count = 0; phase = p; flash = f })
         ∙ ap (λ (w : Run). and_then (record { count = 0; phase = p; flash = f }) w) (sym (run_none job g k p f h))
         ∙ ap both (sym (run_none job g (suc j) p f h))
-    by (Do o) h ih =
+    by (Some o) h ih =
         ap (λ (n : ℕ). run job g n p f) e ∙ run_some job g (j + k) p f o h ∙ ap one_more (ih o)
         ∙ counted (run job g j (phase_after o) (perform g o f)) ∙ ap both (sym (run_some job g j p f o h))
       where

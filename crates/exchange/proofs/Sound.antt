@@ -6,7 +6,8 @@ use Prim.Native.Nat.{ℕ, suc, ◌+◌, ◌-◌, ◌*◌, ◌≤◌, ◌<◌}
 use native.Mathlib.Decide.{ℕ_discrete, dec_lt}
 use native.Mathlib.Omega.{arith}
 use lib.ListN.{length}
-use Rattle.exchange.specs.Base.{Geometry, BootStatus, Flag, Untouched, Exchanged, Known, Leg, UpdateToSwap, BootToUpdate, SwapToBoot}
+use Rattle.std.specs.Prelude.{Some}
+use Rattle.exchange.specs.Base.{Geometry, BootStatus, Flag, Untouched, Exchanged, Leg, UpdateToSwap, BootToUpdate, SwapToBoot}
 use Rattle.exchange.specs.Base.{firmware, Limits, sector_number, erased, Flash, Shaped, boot_byte, boot_status_of, boot_status_at, update_status_of, update_status_at, moved, flag_at, set_flag}
 use Rattle.exchange.specs.declared.Area.{Area}
 use Rattle.exchange.specs.declared.Area.TheVariants.{Boot, Update, Swap}
@@ -28,7 +29,7 @@ pub record Sound (g : Geometry) (old : Flash) (a : ℕ) (f : Flash) : Type 0 whe
 -- all flags 0
 pub record Crossed (g : Geometry) (old f : Flash) : Type 0 where
   pub shaped : Shaped g f
-  pub flags0 : (j : ℕ) → j < firmware g → flag_at g f.update j ≡ Known Exchanged
+  pub flags0 : (j : ℕ) → j < firmware g → flag_at g f.update j ≡ Some Exchanged
   pub boot_is : (j : ℕ) → j < firmware g → get g Boot j f ≡ get g Update j old
   pub update_is : (j : ℕ) → j < firmware g → get g Update j f ≡ get g Boot j old
 
@@ -241,7 +242,7 @@ module _ (g : Geometry) (G : Limits g) where
   pub crossed : (old f : Flash) → Sound g old (3 * firmware g) f → Crossed g old f
   crossed old f s = record {
     shaped = s.shaped;
-    flags0 = λ j hj. s.moves j hj ∙ ap Known (moved_end j hj);
+    flags0 = λ j hj. s.moves j hj ∙ ap Some (moved_end j hj);
     boot_is = λ j hj. ap (λ (w : Flag). get g (old_update_in w) j f) (sym (moved_end j hj)) ∙ s.update_in j hj;
     update_is = λ j hj. ap (λ (w : Flag). get g (old_boot_in w) j f) (sym (moved_end j hj)) ∙ s.boot_in j hj;
   }

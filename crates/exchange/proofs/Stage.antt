@@ -6,13 +6,13 @@ use Prim.Native.Nat.{ℕ, zero, suc, ◌+◌, ◌*◌, ◌≤◌, ◌<◌}
 use native.Mathlib.Decide.{dec_lt}
 use native.Mathlib.Omega.{arith}
 use lib.ListN.{length}
+use Rattle.std.specs.Prelude.{Some, None}
 use Rattle.numbers.specs.Answer.{gives}
 use Rattle.exchange.specs.Base.{Geometry, BootStatus, BootNew, Testing, Success, UpdateStatus, UpdateNew, Updating, Leg, UpdateToSwap, BootToUpdate, SwapToBoot, All0}
 use Rattle.exchange.specs.Base.{firmware, Limits, sector_number, erased, Flash, Shaped, boot_status_at, update_status_of, update_status_at, flags_at}
 use Rattle.exchange.specs.declared.Area.TheVariants.{Boot, Update as UpdateArea}
 use Rattle.exchange.specs.declared.Operation.{Operation}
 use Rattle.exchange.specs.declared.Operation.TheVariants.{Erase, Copy, WriteFlag, EraseBootTrailer, EraseUpdateTrailer, WriteBootStatus}
-use Rattle.exchange.specs.declared.Next.TheVariants.{Do, Nothing}
 use Rattle.exchange.specs.declared.Job.TheVariants.{Update, Fallback}
 use Rattle.exchange.specs.Operations.{get, put, perform, target, source, next_flag, leg_operation, phase_after}
 use Rattle.exchange.specs.Order.{exchange_next, next_operation}
@@ -73,13 +73,13 @@ pub data Stage (D : List ℕ → List ℕ → Type 0) (g : Geometry) (old : Flas
       → boot_status_at g f.boot ≡ gives b → update_status_at g f.update ≡ gives u → r ≡ 0 → p ≡ 0 → Stage D g old B f p r
 
 pub data Stepped (D : List ℕ → List ℕ → Type 0) (g : Geometry) (old : Flash) {x : Exchange} {b₀ : BootStatus} {u₀ : UpdateStatus} (B : Underway x b₀ u₀) (f : Flash) (p r : ℕ) : Type 0 where
-  stepped : (o : Operation) → next_operation (job_of x) g p f ≡ Do o → Stage D g old B (perform g o f) (phase_after o) r
+  stepped : (o : Operation) → next_operation (job_of x) g p f ≡ Some o → Stage D g old B (perform g o f) (phase_after o) r
       → ((t : Torn) → length t.bytes ≡ g.size → (q : ℕ) × (q ≤ suc r + p) × Stage D g old B (perform_torn g t o f) 0 q)
       → Stepped D g old B f p r
 
 -- ---- the next operation
 
-pub at_leg_next : (p i : ℕ) (leg : Leg) (last : Operation) → exchange_next p (at_leg i leg) last ≡ Do (leg_operation leg p (sector_number i))
+pub at_leg_next : (p i : ℕ) (leg : Leg) (last : Operation) → exchange_next p (at_leg i leg) last ≡ Some (leg_operation leg p (sector_number i))
 at_leg_next p zero UpdateToSwap last = refl
 at_leg_next p zero BootToUpdate last = refl
 at_leg_next p zero SwapToBoot last = refl
@@ -87,7 +87,7 @@ at_leg_next p (suc i) leg last = refl
 
 pub next_leg : (g : Geometry) (x : Exchange) (b : BootStatus) (u : UpdateStatus) (B : Underway x b u) (p i : ℕ) (leg : Leg) (f : Flash)
     → boot_status_at g f.boot ≡ gives b → update_status_at g f.update ≡ gives u → flags_at g f.update ≡ at_leg i leg
-    → next_operation (job_of x) g p f ≡ Do (leg_operation leg p (sector_number i))
+    → next_operation (job_of x) g p f ≡ Some (leg_operation leg p (sector_number i))
 next_leg g x b u from_new p i leg f e₁ e₂ e₃ =
     next_by_reads Update g p f b u (at_leg i leg) e₁ e₂ e₃ ∙ at_leg_next p i leg (WriteBootStatus Testing)
 next_leg g x b u from_success p i leg f e₁ e₂ e₃ =
@@ -97,14 +97,14 @@ next_leg g x b u from_testing p i leg f e₁ e₂ e₃ =
 
 next_last : (g : Geometry) (x : Exchange) (b : BootStatus) (u : UpdateStatus) (c : Closing x b u) (p : ℕ) (f : Flash)
     → boot_status_at g f.boot ≡ gives b → update_status_at g f.update ≡ gives u → flags_at g f.update ≡ All0
-    → next_operation (job_of x) g p f ≡ Do (closing_operation c)
+    → next_operation (job_of x) g p f ≡ Some (closing_operation c)
 next_last g x b u erase_boot p f e₁ e₂ e₃ = next_by_reads Update g p f b u All0 e₁ e₂ e₃
 next_last g x b u write_testing p f e₁ e₂ e₃ = next_by_reads Update g p f b u All0 e₁ e₂ e₃
 next_last g x b u erase_update p f e₁ e₂ e₃ = next_by_reads Update g p f b u All0 e₁ e₂ e₃
 next_last g x b u write_success p f e₁ e₂ e₃ = next_by_reads Fallback g p f b u All0 e₁ e₂ e₃
 
 pub next_end : (g : Geometry) (x : Exchange) (b : BootStatus) (u : UpdateStatus) (c : Closed x b u) (p : ℕ) (f : Flash)
-    → boot_status_at g f.boot ≡ gives b → update_status_at g f.update ≡ gives u → next_operation (job_of x) g p f ≡ Nothing
+    → boot_status_at g f.boot ≡ gives b → update_status_at g f.update ≡ gives u → next_operation (job_of x) g p f ≡ None
 next_end g x b u on_test p f e₁ e₂ = next_by_reads Update g p f b u (flags_at g f.update) e₁ e₂ refl
 next_end g x b u fallen_back_lem p f e₁ e₂ = next_by_reads Fallback g p f b u (flags_at g f.update) e₁ e₂ refl
 

@@ -3,10 +3,10 @@ use mathlib.Core.Path.{◌≡◌, refl, sym, subst}
 use mathlib.Core.List.{List}
 use Prim.Native.Nat.{ℕ, zero, suc, ◌+◌, ◌-◌, ◌≤◌, min}
 use native.Mathlib.Omega.{arith}
+use Rattle.std.specs.Prelude.{None}
 use Rattle.exchange.specs.Base.{Geometry, BootStatus, UpdateStatus}
 use Rattle.exchange.specs.Base.{Limits, Flash}
 use Rattle.exchange.specs.declared.Operation.{Operation}
-use Rattle.exchange.specs.declared.Next.TheVariants.{Nothing}
 use Rattle.exchange.specs.Operations.{perform, phase_after}
 use Rattle.exchange.specs.Order.{next_operation, Run, one_more, run}
 use Rattle.exchange.specs.Demand.{Exchange, job_of, Underway}
@@ -25,7 +25,7 @@ pub record Walked (D : List ℕ → List ℕ → Type 0) (g : Geometry) (old : F
   pub counted : w.count ≡ min k r
 
 module _ {D : List ℕ → List ℕ → Type 0} (g : Geometry) (G : Limits g) (old : Flash) {x : Exchange} {b₀ : BootStatus} {u₀ : UpdateStatus} (B : Underway x b₀ u₀) where
-  pub ended : (f : Flash) (p : ℕ) → Stage D g old B f p 0 → next_operation (job_of x) g p f ≡ Nothing
+  pub ended : (f : Flash) (p : ℕ) → Stage D g old B f p 0 → next_operation (job_of x) g p f ≡ None
   ended f p (in_leg_lem i leg hi hp s d e₁ e₂ ready n) = absurd (omega (arith, leg_below leg))
   ended f p (at_last b u c le s e₁ e₂ n z) = absurd (omega (arith, closing_some c))
   ended f p (at_end b u c y s e₁ e₂ n z) = next_end g x b u c p f e₁ e₂

@@ -6,8 +6,9 @@ use Prim.Native.Nat.{ℕ, zero, suc, ◌+◌, ◌-◌, ◌*◌, ◌/◌, ◌%◌
 use native.Mathlib.Decide.{dec_lt}
 use native.Mathlib.Omega.{arith}
 use lib.ListN.{length}
+use Rattle.std.specs.Prelude.{Some}
 use Rattle.numbers.specs.Answer.{gives, no_reason}
-use Rattle.exchange.specs.Base.{Geometry, BootStatus, Testing, Success, UpdateStatus, Updating, Flag, Untouched, Exchanged, Known, Leg, UpdateToSwap, BootToUpdate, SwapToBoot, AllF}
+use Rattle.exchange.specs.Base.{Geometry, BootStatus, Testing, Success, UpdateStatus, Updating, Flag, Untouched, Exchanged, Leg, UpdateToSwap, BootToUpdate, SwapToBoot, AllF}
 use Rattle.exchange.specs.Base.{firmware, partition_size, Limits, Flash, Shaped, fits, boot_status_at, update_status_at, moved, flags_at}
 use Rattle.exchange.specs.declared.Area.{Area}
 use Rattle.exchange.specs.Operations.{get, old_boot_in, old_update_in}
@@ -95,7 +96,7 @@ module _ (check : Check) (g : Geometry) (G : Limits g) (old : Flash) {x : Exchan
       read_update = e₂;
       stands = record {
         within = omega arith;
-        flags = λ j hj. s.flags0 j hj ∙ ap Known (sym (moved_end g G j hj));
+        flags = λ j hj. s.flags0 j hj ∙ ap Some (sym (moved_end g G j hj));
         in_place = λ j hj. record { flag = Exchanged; reads = s.flags0 j hj; old_boot = s.update_is j hj; old_update = s.boot_is j hj };
       };
       old_whole = whole;
@@ -163,7 +164,7 @@ leg_after_lem (suc (suc zero)) h = refl
 leg_after_lem (suc (suc (suc a))) h = absurd (omega arith)
 
 -- each old sector is where its flag says
-pub same_flag : (v w : Flag) → Known v ≡ Known w → v ≡ w
+pub same_flag : (v w : Flag) → Some v ≡ Some w → v ≡ w
 same_flag v w e = cc
 
 placed : (g : Geometry) (old f : Flash) (a : ℕ) → Shaped g f → Stands g old f a → Sound g old a f
@@ -226,7 +227,7 @@ stands_first g f e =
     record {
       within = omega arith;
       flags = m;
-      in_place = λ i hi. record { flag = Untouched; reads = m i hi ∙ ap Known (z i); old_boot = refl; old_update = refl };
+      in_place = λ i hi. record { flag = Untouched; reads = m i hi ∙ ap Some (z i); old_boot = refl; old_update = refl };
     }
 
 pub starts_ongoing : (check : Check) (x : Exchange) (g : Geometry) (f : Flash) → Starts check x g f → Ongoing check x g f f 0

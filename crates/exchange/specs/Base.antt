@@ -15,8 +15,6 @@ pub use Rattle.flash_status.specs.StatusBytes.{boot_byte, boot_status_at, set_bo
 unfoldable pub use Rattle.flash_status.specs.StatusBytes.{status_byte, boot_status_of, update_status_of}
 pub use Rattle.flash_flags.specs.declared.Flag.{Flag}
 pub use Rattle.flash_flags.specs.declared.Flag.TheVariants.{Untouched, Saved, Moved, Exchanged}
-pub use Rattle.flash_flags.specs.declared.FlagRead.{FlagRead}
-pub use Rattle.flash_flags.specs.declared.FlagRead.TheVariants.{Known, Unknown}
 pub use Rattle.flash_flags.specs.declared.Leg.{Leg}
 pub use Rattle.flash_flags.specs.declared.Leg.TheVariants.{UpdateToSwap, BootToUpdate, SwapToBoot}
 pub use Rattle.flash_flags.specs.declared.Flags.{Flags}

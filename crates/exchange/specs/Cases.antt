@@ -1,7 +1,6 @@
 -- Document 01's marked cases 1 to 6, as one list and one claim over it, for every flash of three sectors of 256: m = 2, the flag byte
 -- is at 766.
-use Rattle.std.specs.Prelude.{◌≡◌, Bool, true, false, List, [], ◌∷◌, ℕ, ◌<◌, get_or}
-use Rattle.std.proofs.Math.Option.{Option, none, some}
+use Rattle.std.specs.Prelude.{◌≡◌, Bool, true, false, List, [], ◌∷◌, ℕ, ◌<◌, get_or, Option, Some, None}
 use Rattle.numbers.specs.Answer.{gives, Refusal, numbered, number_of}
 use Rattle.numbers.specs.Every.{Every}
 use Rattle.exchange.specs.Base.{Geometry, BootStatus, Testing, Success, UpdateStatus, UpdateNew as New, Updating, AllF}
@@ -82,8 +81,8 @@ pub data ExchangeCase : Type 0 where
 
 -- The flag byte is the one that the case names, if it names one.
 abbrev pub FlagByteIs : Option ℕ → Flash → Type 0
-FlagByteIs none f = Unit {0}
-FlagByteIs (some b) f = flag_byte_of f ≡ b
+FlagByteIs None f = Unit {0}
+FlagByteIs (Some b) f = flag_byte_of f ≡ b
 
 -- Power-ups with the budgets bs, from the flash f on, leave what the case says.
 pub record LeavesAs (check : Check) (f : Flash) (bs : List ℕ) (l : Leaves) : Type 0 where
@@ -109,7 +108,7 @@ ExchangeCaseHolds check (malformed b r) =
 
 -- Case 1: after k operations of the update the flag byte is b.
 abbrev pub flag_byte_after : ℕ → ℕ → ExchangeCase
-flag_byte_after k b = power_ups update (k ∷ []) (leaves (k ∷ []) cut (some b) Success Updating)
+flag_byte_after k b = power_ups update (k ∷ []) (leaves (k ∷ []) cut (Some b) Success Updating)
 
 abbrev pub exchange_cases : List ExchangeCase
 exchange_cases =
@@ -121,15 +120,15 @@ exchange_cases =
     ∷ flag_byte_after 15 0x30
     ∷ flag_byte_after 18 0x00
     -- 2
-    ∷ power_ups update (20 ∷ []) (leaves (20 ∷ []) cut none Testing Updating)
-    ∷ power_ups update (21 ∷ []) (leaves (21 ∷ []) runs_on_test none Testing New)
+    ∷ power_ups update (20 ∷ []) (leaves (20 ∷ []) cut None Testing Updating)
+    ∷ power_ups update (21 ∷ []) (leaves (21 ∷ []) runs_on_test None Testing New)
     -- 3
-    ∷ power_ups update (5 ∷ []) (leaves (5 ∷ []) cut none Success Updating)
-    ∷ power_ups update (5 ∷ 100 ∷ []) (leaves (5 ∷ 18 ∷ []) runs_on_test none Testing New)
+    ∷ power_ups update (5 ∷ []) (leaves (5 ∷ []) cut None Success Updating)
+    ∷ power_ups update (5 ∷ 100 ∷ []) (leaves (5 ∷ 18 ∷ []) runs_on_test None Testing New)
     -- 4
-    ∷ power_ups update (2 ∷ 2 ∷ 2 ∷ []) (leaves (2 ∷ 2 ∷ 2 ∷ []) cut (some 0xFF) Success Updating)
+    ∷ power_ups update (2 ∷ 2 ∷ 2 ∷ []) (leaves (2 ∷ 2 ∷ 2 ∷ []) cut (Some 0xFF) Success Updating)
     -- 5
-    ∷ power_ups fallback (100 ∷ []) (leaves (19 ∷ []) runs_fallen_back none Success New)
+    ∷ power_ups fallback (100 ∷ []) (leaves (19 ∷ []) runs_fallen_back None Success New)
     -- 6
     ∷ malformed 0x7F true
     ∷ malformed 0xF7 false

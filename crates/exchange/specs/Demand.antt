@@ -1,7 +1,7 @@
 -- Demand 3: every list of power-ups from an accepted update, from a fallback whose UPDATE is good, and from an exchange that is under way.
-use Rattle.std.specs.Prelude.{◌≡◌, ◌⊎◌, true, false, List, ℕ, ◌+◌, ◌-◌, ◌*◌, ◌≤◌, ◌<◌, length}
+use Rattle.std.specs.Prelude.{◌≡◌, ◌⊎◌, true, false, List, ℕ, ◌+◌, ◌-◌, ◌*◌, ◌≤◌, ◌<◌, length, Some}
 use Rattle.numbers.specs.Answer.{gives, numbered, Reason, no_reason}
-use Rattle.exchange.specs.Base.{Geometry, BootStatus, BootNew, Testing, Success, UpdateStatus, UpdateNew, Updating, Flag, Known, Flags, AllF, All0}
+use Rattle.exchange.specs.Base.{Geometry, BootStatus, BootNew, Testing, Success, UpdateStatus, UpdateNew, Updating, Flag, Flags, AllF, All0}
 use Rattle.exchange.specs.Base.{firmware, partition_size, firmware_of, erased, Flash, fits, boot_status_at, update_status_at, flag_rank, moved, flag_at, flags_at}
 use Rattle.exchange.specs.declared.Area.TheVariants.{Boot, Update}
 use Rattle.exchange.specs.declared.Job.{Job}
@@ -46,7 +46,7 @@ Finished fallback g f = boot_status_at g f.boot ≡ gives Success
 -- sector i stand, unharmed. `old` is the flash where the exchange started.
 pub record InPlace (g : Geometry) (old f : Flash) (i : ℕ) : Type 0 where
   pub flag : Flag
-  pub reads : flag_at g f.update i ≡ Known flag
+  pub reads : flag_at g f.update i ≡ Some flag
   pub old_boot : get g (old_boot_in flag) i f ≡ get g Boot i old
   pub old_update : get g (old_update_in flag) i f ≡ get g Update i old
 
@@ -54,7 +54,7 @@ pub record InPlace (g : Geometry) (old f : Flash) (i : ℕ) : Type 0 where
 -- all; each old sector is where the table of places has it.
 pub record Stands (g : Geometry) (old f : Flash) (a : ℕ) : Type 0 where
   pub within : a ≤ 3 * firmware g
-  pub flags : (i : ℕ) → i < firmware g → flag_at g f.update i ≡ Known (moved (a - 3 * i))
+  pub flags : (i : ℕ) → i < firmware g → flag_at g f.update i ≡ Some (moved (a - 3 * i))
   pub in_place : (i : ℕ) → i < firmware g → InPlace g old f i
 
 -- ---- where a list starts
@@ -160,16 +160,16 @@ pub record FlagMovedOn (g : Geometry) (before after : Flash) : Type 0 where
   pub is_firmware : sector < firmware g
   pub was : Flag
   pub is : Flag
-  pub read_before : flag_at g before.update sector ≡ Known was
-  pub read_after : flag_at g after.update sector ≡ Known is
+  pub read_before : flag_at g before.update sector ≡ Some was
+  pub read_after : flag_at g after.update sector ≡ Some is
   pub on : flag_rank was < flag_rank is
 
 -- Sector i's flag has not moved back.
 pub record FlagNotBack (g : Geometry) (before after : Flash) (i : ℕ) : Type 0 where
   pub was : Flag
   pub is : Flag
-  pub read_before : flag_at g before.update i ≡ Known was
-  pub read_after : flag_at g after.update i ≡ Known is
+  pub read_before : flag_at g before.update i ≡ Some was
+  pub read_after : flag_at g after.update i ≡ Some is
   pub not_back : flag_rank was ≤ flag_rank is
 
 abbrev pub IsRefusal : Outcome → Type 0

@@ -1,12 +1,10 @@
 -- Document 01, "Power-up": what a loss of power leaves of the operation that it breaks off; and what it leaves of arm and confirm.
-use Rattle.std.specs.Prelude.{Bool, cond, List, [], ◌∷◌, ℕ, zero, suc}
+use Rattle.std.specs.Prelude.{Bool, cond, List, [], ◌∷◌, ℕ, zero, suc, Option, Some, None}
 use Rattle.numbers.specs.Answer.{Answer, gives, refused}
 use Rattle.exchange.specs.Base.{Geometry, Success, Updating}
 use Rattle.exchange.specs.Base.{Flash, flags_at}
 use Rattle.exchange.specs.declared.Operation.{Operation}
 use Rattle.exchange.specs.declared.Operation.TheVariants.{Erase, Copy, WriteFlag, EraseBootTrailer, EraseUpdateTrailer, WriteBootStatus, WriteUpdateStatus}
-use Rattle.exchange.specs.declared.Next.{Next}
-use Rattle.exchange.specs.declared.Next.TheVariants.{Do, Nothing}
 use Rattle.exchange.specs.Operations.{put, target, perform}
 use Rattle.exchange.specs.Commands.{checked, may_arm, arm_operations, may_confirm, confirm_operations}
 
@@ -28,9 +26,9 @@ perform_torn g t (WriteBootStatus v) f = cond t.new (perform g (WriteBootStatus 
 perform_torn g t (WriteUpdateStatus v) f = cond t.new (perform g (WriteUpdateStatus v) f) f
 
 -- The operation that would have been next, if there is one, is the one that is torn.
-abbrev pub tear_next : Geometry → Torn → Next → Flash → Flash
-tear_next g t Nothing f = f
-tear_next g t (Do o) f = perform_torn g t o f
+abbrev pub tear_next : Geometry → Torn → Option Operation → Flash → Flash
+tear_next g t None f = f
+tear_next g t (Some o) f = perform_torn g t o f
 
 -- ---- arm and confirm
 

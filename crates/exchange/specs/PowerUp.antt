@@ -1,11 +1,9 @@
 -- Document 01, "Power-up": the call with a budget, made only of repeating the single step.
-use Rattle.std.specs.Prelude.{List, [], ℕ}
+use Rattle.std.specs.Prelude.{List, [], ℕ, Option, Some, None}
 use Rattle.numbers.specs.Answer.{Answer, gives, refused, Refusal, inside, Reason, no_reason}
 use Rattle.flash.specs.declared.Geometry.{Geometry}
 use Rattle.flash.specs.Buffers.{Flash}
 use Rattle.exchange.specs.declared.Operation.{Operation}
-use Rattle.exchange.specs.declared.Next.{Next}
-use Rattle.exchange.specs.declared.Next.TheVariants.{Do, Nothing}
 use Rattle.exchange.specs.declared.Job.{Job}
 use Rattle.exchange.specs.declared.Job.TheVariants.{Update, Fallback, TurnDown}
 use Rattle.exchange.specs.Order.{next_operation, Run, run, operations}
@@ -38,9 +36,9 @@ done_outcome Fallback = runs_fallen_back
 done_outcome TurnDown = runs
 
 -- An operation that is still ordered when the budget is used up gives "cut"; else BOOT is checked. Checks cost no budget.
-abbrev pub outcome_by : Next → Job → Answer ℕ → Outcome
-outcome_by (Do o) job boot = cut
-outcome_by Nothing job boot = if_boot_good (done_outcome job) boot
+abbrev pub outcome_by : Option Operation → Job → Answer ℕ → Outcome
+outcome_by (Some o) job boot = cut
+outcome_by None job boot = if_boot_good (done_outcome job) boot
 
 -- What a job answers and leaves after its run of steps; the reason stands beside whatever outcome.
 abbrev pub worked : Check → Geometry → Job → Reason → Run → PowerUp
@@ -76,10 +74,10 @@ unfoldable pub operations_of : Check → Geometry → Flash → ℕ → List Ope
 operations_of check g f budget = operations_in g f budget (decide check g f)
 
 -- The operation that the same call orders after its first k, if any: the one that a loss of power may tear.
-abbrev pub next_in : Geometry → Flash → ℕ → Plan → Next
-next_in g f k (refuse r) = Nothing
-next_in g f k plain = Nothing
+abbrev pub next_in : Geometry → Flash → ℕ → Plan → Option Operation
+next_in g f k (refuse r) = None
+next_in g f k plain = None
 next_in g f k (work job _) = next_operation job g (run job g k 0 f).phase (run job g k 0 f).flash
 
-unfoldable pub next_after : Check → Geometry → Flash → ℕ → Next
+unfoldable pub next_after : Check → Geometry → Flash → ℕ → Option Operation
 next_after check g f k = next_in g f k (decide check g f)

@@ -1,11 +1,10 @@
 -- Demand 3 speaks of something: from every start there is a list that 01 allows, with a refused power-up and a torn copy, that comes to
 -- the finish; and an exchange under way can stand anywhere.
-use Rattle.std.specs.Prelude.{◌≡◌, List, [], ◌∷◌, ℕ, ◌+◌, ◌*◌, ◌≤◌, length}
+use Rattle.std.specs.Prelude.{◌≡◌, List, [], ◌∷◌, ℕ, ◌+◌, ◌*◌, ◌≤◌, length, Some}
 use Rattle.numbers.specs.Answer.{numbered}
 use Rattle.exchange.specs.Base.{Geometry, UpdateToSwap}
 use Rattle.exchange.specs.Base.{geometry, firmware, sector_number, Flash}
 use Rattle.exchange.specs.declared.Operation.TheVariants.{Copy}
-use Rattle.exchange.specs.declared.Next.TheVariants.{Do}
 use Rattle.exchange.specs.Decision.{Check}
 use Rattle.exchange.specs.PowerUp.{refusal, power_up, next_after}
 use Rattle.exchange.specs.LostPower.{Torn}
@@ -19,7 +18,7 @@ rough_list g t budget =
 -- What holds of that list, from the flash f on.
 pub record Reached (check : Check) (x : Exchange) (g : Geometry) (f : Flash) (t : Torn) (budget : ℕ) : Type 0 where
   pub first_refused : (power_up check (geometry 0 0) f budget).outcome ≡ refusal (numbered 1 0)
-  pub copy_torn : next_after check g f 1 ≡ Do (Copy UpdateToSwap (sector_number 0))
+  pub copy_torn : next_after check g f 1 ≡ Some (Copy UpdateToSwap (sector_number 0))
   pub allowed : Allowed check x g f (rough_list g t budget)
   pub finished : Finished x g (flash_after (left check) f (rough_list g t budget))
 

@@ -1,12 +1,10 @@
 -- Document 01, "Power-up" and "Mistakes seen in loaders like this": what the rules rule out, each as a law of its own.
-use Rattle.std.specs.Prelude.{◌≡◌, ◌≢◌, ◌⊎◌, true, false, List, [], ◌∷◌, ◌++◌, ℕ, suc, ◌≤◌, ◌<◌, length, take}
+use Rattle.std.specs.Prelude.{◌≡◌, ◌≢◌, ◌⊎◌, true, false, ◌++◌, ℕ, suc, ◌≤◌, ◌<◌, length, take, Some, None, option_to_list}
 use Rattle.numbers.specs.Answer.{Answer, gives, refused, Refusal, numbered, inside, number_of, Reason, no_reason, because}
 use Rattle.exchange.specs.Base.{Geometry, SectorNumber, BootStatus, Testing, UpdateStatus, UpdateNew, Updating, Leg, UpdateToSwap, Flags, Malformed, AllF, At, All0}
 use Rattle.exchange.specs.Base.{sector_number, Flash, fits, boot_status_at, update_status_at, flags_at}
 use Rattle.exchange.specs.declared.Operation.{Operation}
 use Rattle.exchange.specs.declared.Operation.TheVariants.{Erase, EraseUpdateTrailer}
-use Rattle.exchange.specs.declared.Next.{Next}
-use Rattle.exchange.specs.declared.Next.TheVariants.{Do, Nothing}
 use Rattle.exchange.specs.declared.Job.{Job}
 use Rattle.exchange.specs.declared.Job.TheVariants.{Update, Fallback, TurnDown}
 use Rattle.exchange.specs.Operations.{target, perform, perform_all}
@@ -51,11 +49,6 @@ pub data ToldOf : Job → Outcome → Type 0 where
   on_test : ToldOf Update runs_on_test
   fallen_back : ToldOf Fallback runs_fallen_back
   as_plain : ToldOf TurnDown runs
-
--- None, or the one operation that is next.
-abbrev pub as_list : Next → List Operation
-as_list Nothing = []
-as_list (Do o) = o ∷ []
 
 -- Turned down: one operation, which erases the UPDATE trailer sector.
 pub record TurnedDown (g : Geometry) (f : Flash) (a : PowerUp) : Type 0 where
@@ -106,7 +99,7 @@ pub record RuledOut : Type 0 where
   pub performed : (check : Check) (g : Geometry) (f : Flash) (budget : ℕ) → (power_up check g f budget).flash ≡ perform_all g (operations_of check g f budget) f
   pub first_ones : (check : Check) (g : Geometry) (f : Flash) (k budget : ℕ) → k ≤ budget → operations_of check g f k ≡ take k (operations_of check g f budget)
   -- the call's next operation after its first k, which a loss of power may tear, is the one that a budget of k + 1 does besides
-  pub next_one : (check : Check) (g : Geometry) (f : Flash) (k : ℕ) → operations_of check g f (suc k) ≡ operations_of check g f k ++ as_list (next_after check g f k)
+  pub next_one : (check : Check) (g : Geometry) (f : Flash) (k : ℕ) → operations_of check g f (suc k) ≡ operations_of check g f k ++ option_to_list (next_after check g f k)
   -- an update with all flags F over a bad BOOT is 12, and stays armed; a fallback with all flags F to a bad UPDATE is 13
   pub bad_boot_stays : (check : Check) (g : Geometry) (f : Flash) (b : BootStatus) (v n p budget : ℕ) → Underway update b Updating → Reads g f b Updating AllF
       → check g f.update ≡ gives v → check g f.boot ≡ refused n p → power_up check g f budget ≡ idle (refusal (inside 12 n p)) f
@@ -114,12 +107,12 @@ pub record RuledOut : Type 0 where
       → power_up check g f budget ≡ idle (refusal (inside 13 n p)) f
   -- a job with an operation left is "cut"; done, BOOT is checked: bad is 12, good is what is told of the job
   pub left_is_cut : (check : Check) (g : Geometry) (f : Flash) (budget : ℕ) (job : Job) (why : Reason) (o : Operation) → decide check g f ≡ work job why
-      → next_after check g f budget ≡ Do o → (power_up check g f budget).outcome ≡ cut
+      → next_after check g f budget ≡ Some o → (power_up check g f budget).outcome ≡ cut
   pub done_bad : (check : Check) (g : Geometry) (f : Flash) (budget n p : ℕ) (job : Job) (why : Reason) → decide check g f ≡ work job why
-      → next_after check g f budget ≡ Nothing → check g (power_up check g f budget).flash.boot ≡ refused n p
+      → next_after check g f budget ≡ None → check g (power_up check g f budget).flash.boot ≡ refused n p
       → (power_up check g f budget).outcome ≡ refusal (inside 12 n p)
   pub done_good : (check : Check) (g : Geometry) (f : Flash) (budget v : ℕ) (job : Job) (why : Reason) → decide check g f ≡ work job why
-      → next_after check g f budget ≡ Nothing → check g (power_up check g f budget).flash.boot ≡ gives v
+      → next_after check g f budget ≡ None → check g (power_up check g f budget).flash.boot ≡ gives v
       → ToldOf job (power_up check g f budget).outcome
   -- nothing is run that is bad: BOOT's image in the flash that is left is good
   pub runs_good : (check : Check) (g : Geometry) (f : Flash) (budget : ℕ) → IsRun (power_up check g f budget).outcome

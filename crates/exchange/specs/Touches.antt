@@ -1,8 +1,8 @@
 -- Document 01, "The flash" and "Power-up": what each single operation leaves, done or torn, and that it touches nothing else. So that the
 -- definitions of an operation are held by more than their own words.
-use Rattle.std.specs.Prelude.{◌≡◌, ◌≢◌, ◌⊎◌, true, false, List, ℕ, ◌≤◌, ◌<◌, length, get_or}
+use Rattle.std.specs.Prelude.{◌≡◌, ◌≢◌, ◌⊎◌, true, false, List, ℕ, ◌≤◌, ◌<◌, length, get_or, Some}
 use Rattle.flash_status.specs.StatusBytes.{status_place}
-use Rattle.exchange.specs.Base.{Geometry, BootStatus, UpdateStatus, Flag, Known, Leg}
+use Rattle.exchange.specs.Base.{Geometry, BootStatus, UpdateStatus, Flag, Leg}
 use Rattle.exchange.specs.Base.{Flash, Shaped, firmware, sector_number, erased, boot_byte, update_byte, flag_byte, half, flag_at}
 use Rattle.exchange.specs.declared.Area.{Area}
 use Rattle.exchange.specs.declared.Area.TheVariants.{Boot, Update, Swap}
@@ -23,7 +23,7 @@ pub record WritesSector (g : Geometry) (f : Flash) (d : Area) (i : ℕ) (x : Lis
 
 -- From f to f': sector i's flag is v, and its half byte alone has changed, of UPDATE. For odd m the half behind the last flag is half m.
 pub record WritesFlag (g : Geometry) (f : Flash) (i : ℕ) (v : Flag) (f' : Flash) : Type 0 where
-  pub there : flag_at g f'.update i ≡ Known v
+  pub there : flag_at g f'.update i ≡ Some v
   pub halves : (j : ℕ) → j ≤ firmware g → j ≢ i → half j (get_or f'.update (flag_byte g j) 0) ≡ half j (get_or f.update (flag_byte g j) 0)
   pub bytes : (p : ℕ) → p ≢ flag_byte g i → get_or f'.update p 0 ≡ get_or f.update p 0
   pub extent : length f'.update ≡ length f.update

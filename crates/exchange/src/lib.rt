@@ -25,13 +25,6 @@ pub enum Operation {
     WriteUpdateStatus(UpdateStatus),
 }
 
-// The operation that is ordered next, if any.
-#[derive(Clone, Copy)]
-pub enum Next {
-    Do(Operation),
-    Nothing,
-}
-
 // The work of a power-up that changes the flash. Document 01 calls the last one turning down.
 #[derive(Clone, Copy)]
 pub enum Job {

@@ -1,2 +1,2 @@
--- Each call by its first check.
+-- The checks of a command, and a command by what they answer.
 pub mod Calls

@@ -2,31 +2,22 @@
 #![tactic(auto)]
 
 ghost use Rattle.std.specs.Prelude.{◌≡◌};
-ghost use Rattle.numbers.specs.Answer.{gives};
-ghost use Rattle.flash.specs.Sizes.{geometry, geometry_answer};
+ghost use Rattle.flash.specs.Sizes.{geometry};
 ghost use Rattle.flash.specs.Sectors.{Partition};
-ghost use Rattle.flash.specs.Buffers.{flash, Shaped};
+ghost use Rattle.flash.specs.Buffers.{flash, lent};
 ghost use Rattle.flash_flags.specs.SectorFlags.{flags_at};
-ghost use Rattle.exchange.specs.Commands.{command, may_arm, confirm_flags, may_confirm, arm_command, confirm_command};
-ghost use Rattle.exchange_commands.specs.Numbers.{commanded};
-ghost use Rattle.exchange_commands.specs.Inner.{permit_of, may_do, permit_at, command_operations, ShapedWhere, command_after};
+ghost use Rattle.exchange.specs.Commands.{may_arm, may_confirm, arm_command, confirm_command};
+ghost use Rattle.exchange_commands.specs.Numbers.{command_of, commanded};
+ghost use Rattle.exchange_commands.specs.Inner.{permit_at, permitted};
 
 use exchange::Operation;
-use flash::{Geometry, GeometryAnswer};
+use exchange_steps::FlashMut;
+use flash::Geometry;
 use flash_flags::Flags;
-use flash_status::{BootStatus, Statuses, UpdateStatus};
+use flash_status::{BootStatus, UpdateStatus};
 use numbers::CommandRefusal;
 
-// What arm and confirm answer: done, with the number of operations, or refused.
-#[derive(Clone, Copy)]
-pub enum CommandAnswer {
-    Done(u64),
-    Refused(CommandRefusal),
-}
-
-// ---- the commands
-
-// What can be commanded. The functions below say of each its checks and its operations.
+// What can be commanded.
 #[derive(Clone, Copy)]
 pub enum CommandKind {
     Arm,
@@ -35,169 +26,117 @@ pub enum CommandKind {
 
 // ---- the checks before the operations
 
-// Whether a command may do its operations.
-#[derive(Clone, Copy)]
-pub enum Permit {
-    Granted,
-    Denied(CommandRefusal),
-}
-
 // Arm: UPDATE has to be NEW, and BOOT NEW or SUCCESS.
-fn permit_arm(b: BootStatus, u: UpdateStatus) -> Permit
-    ensures { permit_of result ≡ may_arm b u }
+fn permit_arm(b: BootStatus, u: UpdateStatus) -> Result<(), CommandRefusal>
+    ensures { command_of result ≡ may_arm b u }
 {
-    match u {
-        UpdateStatus::New => match b {
-            BootStatus::Testing => Permit::Denied(CommandRefusal::WrongTime),
-            BootStatus::New => Permit::Granted,
-            BootStatus::Success => Permit::Granted,
-        },
-        UpdateStatus::Updating => Permit::Denied(CommandRefusal::WrongTime),
+    match (b, u) {
+        (BootStatus::New | BootStatus::Success, UpdateStatus::New) => Ok(()),
+        _ => Err(CommandRefusal::WrongTime),
     }
 }
 
-// Confirm: all flags have to be F.
-fn permit_flags(g: Geometry, update: &[u8]) -> Permit
-    requires { Partition g update.now }
-    ensures { permit_of result ≡ confirm_flags (flags_at g update.now) }
-{
-    match flash_flags::read_flags(g, update) {
-        Flags::Malformed => Permit::Denied(CommandRefusal::FlagsMalformed),
-        Flags::AllF => Permit::Granted,
-        Flags::At(_, _) => Permit::Denied(CommandRefusal::WrongTime),
-        Flags::All0 => Permit::Denied(CommandRefusal::WrongTime),
-    }
-}
-
-// Confirm: BOOT has to be TESTING, and UPDATE NEW.
-fn permit_confirm(g: Geometry, b: BootStatus, u: UpdateStatus, update: &[u8]) -> Permit
-    requires { Partition g update.now }
-    ensures { permit_of result ≡ may_confirm (flags_at g update.now) b u }
-{
-    match u {
-        UpdateStatus::New => match b {
-            BootStatus::Testing => permit_flags(g, update),
-            BootStatus::New => Permit::Denied(CommandRefusal::WrongTime),
-            BootStatus::Success => Permit::Denied(CommandRefusal::WrongTime),
-        },
-        UpdateStatus::Updating => Permit::Denied(CommandRefusal::WrongTime),
-    }
-}
-
-// What a command wants, by the statuses and the flags.
-fn permit_by(
-    kind: CommandKind,
+// Confirm: BOOT has to be TESTING, and UPDATE NEW; and all flags have to be F.
+fn permit_confirm(
     g: Geometry,
     b: BootStatus,
     u: UpdateStatus,
     update: &[u8],
-) -> Permit
+) -> Result<(), CommandRefusal>
     requires { Partition g update.now }
-    ensures { permit_of result ≡ may_do kind (flags_at g update.now) b u }
+    ensures { command_of result ≡ may_confirm (flags_at g update.now) b u }
 {
+    let (BootStatus::Testing, UpdateStatus::New) = (b, u) else {
+        return Err(CommandRefusal::WrongTime);
+    };
+    match flash_flags::read_flags(g, update) {
+        Flags::AllF => Ok(()),
+        Flags::Malformed => Err(CommandRefusal::FlagsMalformed),
+        Flags::At(_, _) => Err(CommandRefusal::WrongTime),
+        Flags::All0 => Err(CommandRefusal::WrongTime),
+    }
+}
+
+// The checks of a command that come after the lengths.
+pub fn decide(
+    kind: CommandKind,
+    g: Geometry,
+    boot: &[u8],
+    update: &[u8],
+) -> Result<(), CommandRefusal>
+    requires { (Partition g boot.now) × (Partition g update.now) }
+    ensures { command_of result ≡ permit_at kind g boot.now update.now }
+{
+    let (b, u) = flash_status::read_statuses(g, boot, update).ok_or(
+        CommandRefusal::StatusNotAllowed,
+    )?;
     match kind {
         CommandKind::Arm => permit_arm(b, u),
         CommandKind::Confirm => permit_confirm(g, b, u, update),
     }
 }
 
-// The checks of a command that come after the lengths.
-pub fn decide(kind: CommandKind, g: Geometry, boot: &[u8], update: &[u8]) -> Permit
-    requires { (Partition g boot.now) × (Partition g update.now) }
-    ensures { permit_of result ≡ permit_at kind g boot.now update.now }
-{
-    match flash_status::read_statuses(g, boot, update) {
-        Statuses::Allowed(b, u) => permit_by(kind, g, b, u, update),
-        Statuses::NotAllowed => Permit::Denied(CommandRefusal::StatusNotAllowed),
-    }
-}
-
-// ---- the operations
-
-// All operations of a command.
-fn do_operations(
+// All checks of a command: geometry and lengths, and its own.
+fn permit(
     kind: CommandKind,
-    g: Geometry,
-    boot: &mut [u8],
-    update: &mut [u8],
-    swap: &mut [u8],
-) -> CommandAnswer
-    requires { Shaped g (flash boot.old update.old swap.old) }
-    ensures { commanded result (flash boot.new update.new swap.new)
-        ≡ command g (command_operations kind) (gives tt) (flash boot.old update.old swap.old) }
+    sectors: usize,
+    size: usize,
+    boot: &[u8],
+    update: &[u8],
+    swap: &[u8],
+) -> Result<Geometry, CommandRefusal>
+    ensures { command_of result ≡ permitted kind (geometry sectors size) (lent boot.entry update.entry swap.entry) }
 {
-    match kind {
-        CommandKind::Arm => {
-            exchange_steps::do_operation(g, Operation::EraseUpdateTrailer, boot, update, swap);
-            exchange_steps::do_operation(
-                g,
-                Operation::WriteUpdateStatus(UpdateStatus::Updating),
-                boot,
-                update,
-                swap,
-            );
-            CommandAnswer::Done(2)
-        }
-        CommandKind::Confirm => {
-            exchange_steps::do_operation(
-                g,
-                Operation::WriteBootStatus(BootStatus::Success),
-                boot,
-                update,
-                swap,
-            );
-            CommandAnswer::Done(1)
-        }
-    }
+    let g = flash::check_flash(sectors, size, boot, update, swap).ok_or(
+        CommandRefusal::OutsideRules,
+    )?;
+    decide(kind, g, boot, update)?;
+    Ok(g)
 }
 
-// A command, after the check of geometry and lengths: where its own checks grant it, its operations.
-fn obey(
-    kind: CommandKind,
-    fit: GeometryAnswer,
-    boot: &mut [u8],
-    update: &mut [u8],
-    swap: &mut [u8],
-) -> CommandAnswer
-    requires { ShapedWhere (geometry_answer fit) (flash boot.old update.old swap.old) }
-    ensures { commanded result (flash boot.new update.new swap.new)
-        ≡ command_after kind (geometry_answer fit) (flash boot.old update.old swap.old) }
-{
-    match fit {
-        GeometryAnswer::Fits(g) => match decide(kind, g, boot, update) {
-            Permit::Granted => do_operations(kind, g, boot, update, swap),
-            Permit::Denied(refusal) => CommandAnswer::Refused(refusal),
-        },
-        GeometryAnswer::Outside => CommandAnswer::Refused(CommandRefusal::OutsideRules),
-    }
-}
+// ---- the commands
 
-// Arms the update that stands in UPDATE. Any numbers, lengths and bytes are taken.
+// Arms the update that stands in UPDATE. Any numbers, lengths and bytes are taken. What is given back is the number of operations.
 pub fn arm(
     sectors: usize,
     size: usize,
     boot: &mut [u8],
     update: &mut [u8],
     swap: &mut [u8],
-) -> CommandAnswer
+) -> Result<u64, CommandRefusal>
     ensures { commanded result (flash boot.new update.new swap.new)
         ≡ arm_command (geometry sectors size) (flash boot.old update.old swap.old) }
 {
-    let fit = flash::check_flash(sectors, size, boot, update, swap);
-    obey(CommandKind::Arm, fit, boot, update, swap)
+    let geometry = permit(CommandKind::Arm, sectors, size, boot, update, swap)?;
+    let mut f = FlashMut {
+        geometry,
+        boot,
+        update,
+        swap,
+    };
+    f.do_operation(Operation::EraseUpdateTrailer);
+    f.do_operation(Operation::WriteUpdateStatus(UpdateStatus::Updating));
+    Ok(2)
 }
 
-// Keeps the image that runs on test. Any numbers, lengths and bytes are taken.
+// Keeps the image that runs on test. Any numbers, lengths and bytes are taken. What is given back is the number of operations.
 pub fn confirm(
     sectors: usize,
     size: usize,
     boot: &mut [u8],
     update: &mut [u8],
     swap: &mut [u8],
-) -> CommandAnswer
+) -> Result<u64, CommandRefusal>
     ensures { commanded result (flash boot.new update.new swap.new)
         ≡ confirm_command (geometry sectors size) (flash boot.old update.old swap.old) }
 {
-    let fit = flash::check_flash(sectors, size, boot, update, swap);
-    obey(CommandKind::Confirm, fit, boot, update, swap)
+    let geometry = permit(CommandKind::Confirm, sectors, size, boot, update, swap)?;
+    let mut f = FlashMut {
+        geometry,
+        boot,
+        update,
+        swap,
+    };
+    f.do_operation(Operation::WriteBootStatus(BootStatus::Success));
+    Ok(1)
 }

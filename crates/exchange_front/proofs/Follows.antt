@@ -4,6 +4,7 @@ use mathlib.Core.List.{List}
 use Prim.Native.Nat.{ℕ, suc, ◌≤◌, ◌<◌}
 use native.Mathlib.Omega.{arith}
 use lib.ListN.{length}
+use Rattle.std.specs.Prelude.{Option, Some, None}
 use Rattle.flash.specs.declared.Geometry.{Geometry}
 use Rattle.flash.specs.Sizes.{firmware}
 use Rattle.flash.specs.Sectors.{write_sector, erased}
@@ -21,8 +22,6 @@ use Rattle.flash_flags.proofs.Front.{sector_number_lem, front_within, front_tell
 use Rattle.exchange.specs.declared.Area.TheVariants.{Boot, Update, Swap}
 use Rattle.exchange.specs.declared.Operation.{Operation}
 use Rattle.exchange.specs.declared.Operation.TheVariants.{Erase, Copy, WriteFlag, EraseBootTrailer, EraseUpdateTrailer, WriteBootStatus, WriteUpdateStatus}
-use Rattle.exchange.specs.declared.Next.{Next}
-use Rattle.exchange.specs.declared.Next.TheVariants.{Do, Nothing}
 use Rattle.exchange.specs.Operations.{get, next_flag, perform}
 use Rattle.exchange.specs.Order.{ordered_by, next_operation, perform_next, step}
 use Rattle.exchange.proofs.Sound.{sized, next_moved}
@@ -83,9 +82,9 @@ pub steps_keep_form : StepsKeepForm
 unfolding step
 steps_keep_form job g p f s h = by (next_operation job g p f) refl
   where
-    by : (n : Next) → next_operation job g p f ≡ n → WellFormed g (perform_next g n f).update
-    by Nothing e = h
-    by (Do o) e = (follows g f s h o (next_ordered g s.limits job p f o e)).formed
+    by : (n : Option Operation) → next_operation job g p f ≡ n → WellFormed g (perform_next g n f).update
+    by None e = h
+    by (Some o) e = (follows g f s h o (next_ordered g s.limits job p f o e)).formed
 
 -- ---- the next operation
 

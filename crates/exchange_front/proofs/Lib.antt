@@ -1,6 +1,5 @@
 -- The laws that the proofs of this crate cite, and those above it.
--- The next operation by what the code reads; what the rules order, by what the flags show; how the front follows; two steps, computed
-mod ByStatuses
+-- What the rules order, by what the flags show; how the front follows; two steps, computed
 pub mod Ordered
 pub mod Follows
 pub mod Taken

@@ -2,6 +2,7 @@
 use mathlib.Core.Path.{◌≡◌, refl, ◌∙◌}
 use mathlib.Core.List.{List}
 use Prim.Native.Nat.{ℕ, zero, suc, ◌<◌}
+use Rattle.std.specs.Prelude.{Option, Some, None}
 use Rattle.numbers.specs.Answer.{Answer, gives, refused}
 use Rattle.flash.specs.declared.Geometry.{Geometry}
 use Rattle.flash.specs.Sizes.{firmware, Limits}
@@ -25,8 +26,6 @@ use Rattle.exchange.specs.declared.Job.{Job}
 use Rattle.exchange.specs.declared.Job.TheVariants.{Update, Fallback, TurnDown}
 use Rattle.exchange.specs.declared.Operation.{Operation}
 use Rattle.exchange.specs.declared.Operation.TheVariants.{Erase, Copy, WriteFlag, EraseBootTrailer, EraseUpdateTrailer, WriteBootStatus, WriteUpdateStatus}
-use Rattle.exchange.specs.declared.Next.{Next}
-use Rattle.exchange.specs.declared.Next.TheVariants.{Do, Nothing}
 use Rattle.exchange.specs.Operations.{next_flag, leg_operation}
 use Rattle.exchange.specs.Order.{closing, exchange_next, ordered, ordered_by, next_operation}
 
@@ -48,9 +47,9 @@ Ordered g u (WriteUpdateStatus v) = Unit {0}
 
 -- ---- any claim on operations, over all that is ordered
 
-abbrev pub OfNext : (Operation → Type 0) → Next → Type 0
-OfNext P Nothing = Unit {0}
-OfNext P (Do o) = P o
+abbrev pub OfNext : (Operation → Type 0) → Option Operation → Type 0
+OfNext P None = Unit {0}
+OfNext P (Some o) = P o
 
 -- of the legs that flags show
 abbrev pub OfLegs : (Operation → Type 0) → Flags → Type 0
@@ -85,7 +84,7 @@ module _ (P : Operation → Type 0) (boot : P EraseBootTrailer) (update : P Eras
   by_statuses job p (gives b) (refused n q) w h = tt
   by_statuses job p (refused n q) u w h = tt
 
-  pub of_ordered : (job : Job) (p : ℕ) (b : Answer BootStatus) (u : Answer UpdateStatus) (w : Flags) (o : Operation) → OfLegs P w → ordered_by job p b u w ≡ Do o → P o
+  pub of_ordered : (job : Job) (p : ℕ) (b : Answer BootStatus) (u : Answer UpdateStatus) (w : Flags) (o : Operation) → OfLegs P w → ordered_by job p b u w ≡ Some o → P o
   of_ordered job p b u w o h e = rw e at (by_statuses job p b u w h)
 
 -- ---- by what the flags are
@@ -102,7 +101,7 @@ module _ (g : Geometry) (G : Limits g) (u : List ℕ) where
   of_flags All0 e = tt
   of_flags Malformed e = tt
 
-pub next_ordered : (g : Geometry) → Limits g → (job : Job) (p : ℕ) (f : Flash) (o : Operation) → next_operation job g p f ≡ Do o → Ordered g f.update o
+pub next_ordered : (g : Geometry) → Limits g → (job : Job) (p : ℕ) (f : Flash) (o : Operation) → next_operation job g p f ≡ Some o → Ordered g f.update o
 unfolding next_operation
 next_ordered g G job p f o e =
     of_ordered (Ordered g f.update) tt tt (λ v. tt) job p (boot_status_at g f.boot) (update_status_at g f.update) (flags_at g f.update) o

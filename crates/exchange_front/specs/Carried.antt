@@ -1,6 +1,6 @@
 -- Document 02, "Keep the front": what is carried from operation to operation. The rules do not know of it: they find the next operation by
 -- reading all flags, and the front is what a scan of them gives (`flash_flags/front`).
-use Rattle.std.specs.Prelude.{◌≡◌, List, ℕ, ◌-◌, set}
+use Rattle.std.specs.Prelude.{◌≡◌, List, ℕ, ◌-◌, set, Option, Some, None}
 use Rattle.flash.specs.declared.Geometry.{Geometry}
 use Rattle.flash.specs.Sizes.{geometry, firmware, Limits}
 use Rattle.flash.specs.Sectors.{sector_number, erased}
@@ -13,8 +13,6 @@ use Rattle.exchange.specs.declared.Job.{Job}
 use Rattle.exchange.specs.declared.Job.TheVariants.{Update}
 use Rattle.exchange.specs.declared.Operation.{Operation}
 use Rattle.exchange.specs.declared.Operation.TheVariants.{WriteFlag, EraseUpdateTrailer}
-use Rattle.exchange.specs.declared.Next.{Next}
-use Rattle.exchange.specs.declared.Next.TheVariants.{Do, Nothing}
 use Rattle.exchange.specs.Operations.{phase_after, perform}
 use Rattle.exchange.specs.Order.{ordered_by, next_by, next_operation, step}
 use Rattle.exchange_front.specs.declared.Progress.{Progress}
@@ -26,13 +24,13 @@ begun g u budget = record { front = sector_number (front g u); phase = 0; left =
 
 -- After a step that left the bytes u in UPDATE: the front is what the scan of these bytes gives, whatever the step did. Where an operation
 -- was next, the phase is the one after it, and of the budget one less is left.
-abbrev pub progress_scanned : Geometry → List ℕ → Next → Progress → Progress
-progress_scanned g u Nothing at = record { front = sector_number (front g u); phase = at.phase; left = at.left }
-progress_scanned g u (Do o) at = record { front = sector_number (front g u); phase = phase_after o; left = at.left - 1 }
+abbrev pub progress_scanned : Geometry → List ℕ → Option Operation → Progress → Progress
+progress_scanned g u None at = record { front = sector_number (front g u); phase = at.phase; left = at.left }
+progress_scanned g u (Some o) at = record { front = sector_number (front g u); phase = phase_after o; left = at.left - 1 }
 
 -- The operation that is next by what is carried: the two statuses, the front, whatever number it is, and the flag that stands there. No
 -- other flag has a say.
-abbrev pub next_at : Job → Geometry → Progress → List ℕ → List ℕ → Next
+abbrev pub next_at : Job → Geometry → Progress → List ℕ → List ℕ → Option Operation
 next_at job g at boot update =
     ordered_by job at.phase (boot_status_at g boot) (update_status_at g update) (by_front (firmware g) at.front.0 (flag_at g update at.front.0))
 
@@ -53,7 +51,7 @@ SameNext =
 -- After each operation that the rules order, the scan gives the front as `front_after` moves it.
 abbrev pub FrontFollows : Type 0
 FrontFollows =
-    (job : Job) (g : Geometry) (p : ℕ) (f : Flash) (o : Operation) → Shaped g f → WellFormed g f.update → next_operation job g p f ≡ Do o
+    (job : Job) (g : Geometry) (p : ℕ) (f : Flash) (o : Operation) → Shaped g f → WellFormed g f.update → next_operation job g p f ≡ Some o
     → front g (perform g o f).update ≡ front_after o (front g f.update)
 
 -- No step makes well-formed flags malformed, so that the next one can take up what this one hands on.
@@ -66,7 +64,7 @@ StepsKeepForm = (job : Job) (g : Geometry) (p : ℕ) (f : Flash) → Shaped g f 
 pub record StepTaken (p : ℕ) (f : Flash) (o : Operation) (k k' : ℕ) : Type 0 where
   pub shaped : Shaped (geometry 3 256) f
   pub formed : WellFormed (geometry 3 256) f.update
-  pub next : next_operation Update (geometry 3 256) p f ≡ Do o
+  pub next : next_operation Update (geometry 3 256) p f ≡ Some o
   pub before : front (geometry 3 256) f.update ≡ k
   pub after : front (geometry 3 256) (perform (geometry 3 256) o f).update ≡ k'
 

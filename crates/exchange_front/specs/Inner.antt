@@ -1,11 +1,9 @@
 -- How the code moves the front, with no byte of the flash at hand.
-use Rattle.std.specs.Prelude.{ℕ, ◌+◌, ◌-◌}
+use Rattle.std.specs.Prelude.{ℕ, ◌+◌, ◌-◌, Option, Some, None}
 use Rattle.flash.specs.Sectors.{sector_number}
 use Rattle.flash_flags.specs.declared.Flag.TheVariants.{Untouched, Saved, Moved, Exchanged}
 use Rattle.exchange.specs.declared.Operation.{Operation}
 use Rattle.exchange.specs.declared.Operation.TheVariants.{Erase, Copy, WriteFlag, EraseBootTrailer, EraseUpdateTrailer, WriteBootStatus, WriteUpdateStatus}
-use Rattle.exchange.specs.declared.Next.{Next}
-use Rattle.exchange.specs.declared.Next.TheVariants.{Do, Nothing}
 use Rattle.exchange.specs.Operations.{phase_after}
 use Rattle.exchange_front.specs.declared.Progress.{Progress}
 
@@ -28,6 +26,6 @@ front_after (WriteUpdateStatus v) k = k
 abbrev pub progress_after : Progress → Operation → Progress
 progress_after at o = record { front = sector_number (front_after o at.front.0); phase = phase_after o; left = at.left - 1 }
 
-abbrev pub handed_on : Next → Progress → Progress
-handed_on Nothing at = at
-handed_on (Do o) at = progress_after at o
+abbrev pub handed_on : Option Operation → Progress → Progress
+handed_on None at = at
+handed_on (Some o) at = progress_after at o

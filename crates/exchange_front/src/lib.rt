@@ -7,10 +7,9 @@ ghost use Rattle.flash.specs.Sectors.{Partition, sector_number};
 ghost use Rattle.exchange_front.specs.Inner.{front_after, progress_after};
 ghost use Rattle.exchange_front.specs.Carried.{begun, next_at};
 
-use exchange::{Job, Next, Operation};
+use exchange::{Job, Operation};
 use flash::{Geometry, SectorNumber};
 use flash_flags::Flag;
-use flash_status::Statuses;
 
 // How far the work of a power-up has come, by value from operation to operation: the front, which is the first firmware sector whose flag
 // is not 0, or m where all are 0; the phase within its leg; and the budget left.
@@ -70,18 +69,17 @@ pub fn carry_on(at: Progress, op: Operation) -> Progress
 }
 
 // The operation that is next. Of the flags the front's is read, and none where the front is m.
-pub fn find_next(g: Geometry, job: Job, at: Progress, boot: &[u8], update: &[u8]) -> Next
+pub fn find_next(
+    g: Geometry,
+    job: Job,
+    at: Progress,
+    boot: &[u8],
+    update: &[u8],
+) -> Option<Operation>
     requires { (Partition g boot.now) × (Partition g update.now) × (at.front.0 ≤ firmware g) }
     ensures { result ≡ next_at job g at boot.now update.now }
 {
-    match flash_status::read_statuses(g, boot, update) {
-        Statuses::Allowed(b, u) => exchange_order::next_operation(
-            job,
-            at.phase,
-            b,
-            u,
-            flash_flags::flags_by_front(g, update, at.front),
-        ),
-        Statuses::NotAllowed => Next::Nothing,
-    }
+    let (b, u) = flash_status::read_statuses(g, boot, update)?;
+    let flags = flash_flags::flags_by_front(g, update, at.front);
+    exchange_order::next_operation(job, at.phase, b, u, flags)
 }

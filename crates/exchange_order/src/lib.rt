@@ -5,7 +5,7 @@ ghost use Rattle.std.specs.Prelude.{◌≡◌};
 ghost use Rattle.exchange.specs.Operations.{target, next_flag, leg_operation, phase_after};
 ghost use Rattle.exchange.specs.Order.{closing, exchange_next, ordered};
 
-use exchange::{Area, Job, Next, Operation};
+use exchange::{Area, Job, Operation};
 use flash::SectorNumber;
 use flash_flags::{Flag, Flags, Leg};
 use flash_status::{BootStatus, UpdateStatus};
@@ -72,27 +72,37 @@ fn closing_operation(boot: BootStatus) -> Operation
 }
 
 // The legs that the flags show, and `last` when all of them are done.
-fn next_of_exchange(phase: u8, flags: Flags, last: Operation) -> Next
+fn next_of_exchange(phase: u8, flags: Flags, last: Operation) -> Option<Operation>
     ensures { result ≡ exchange_next phase flags last }
 {
     match flags {
-        Flags::AllF => Next::Do(leg_operation(Leg::UpdateToSwap, phase, SectorNumber(0))),
-        Flags::At(i, leg) => Next::Do(leg_operation(leg, phase, i)),
-        Flags::All0 => Next::Do(last),
-        Flags::Malformed => Next::Nothing,
+        Flags::AllF => Some(leg_operation(Leg::UpdateToSwap, phase, SectorNumber(0))),
+        Flags::At(i, leg) => Some(leg_operation(leg, phase, i)),
+        Flags::All0 => Some(last),
+        Flags::Malformed => None,
     }
 }
 
-fn next_of_update(phase: u8, boot: BootStatus, update: UpdateStatus, flags: Flags) -> Next
+fn next_of_update(
+    phase: u8,
+    boot: BootStatus,
+    update: UpdateStatus,
+    flags: Flags,
+) -> Option<Operation>
     ensures { result ≡ ordered Job.Update phase boot update flags }
 {
     match update {
         UpdateStatus::Updating => next_of_exchange(phase, flags, closing_operation(boot)),
-        UpdateStatus::New => Next::Nothing,
+        UpdateStatus::New => None,
     }
 }
 
-fn next_of_fallback(phase: u8, boot: BootStatus, update: UpdateStatus, flags: Flags) -> Next
+fn next_of_fallback(
+    phase: u8,
+    boot: BootStatus,
+    update: UpdateStatus,
+    flags: Flags,
+) -> Option<Operation>
     ensures { result ≡ ordered Job.Fallback phase boot update flags }
 {
     match boot {
@@ -101,17 +111,22 @@ fn next_of_fallback(phase: u8, boot: BootStatus, update: UpdateStatus, flags: Fl
             flags,
             Operation::WriteBootStatus(BootStatus::Success),
         ),
-        BootStatus::New => Next::Nothing,
-        BootStatus::Success => Next::Nothing,
+        BootStatus::New => None,
+        BootStatus::Success => None,
     }
 }
 
-fn next_of_turning_down(phase: u8, boot: BootStatus, update: UpdateStatus, flags: Flags) -> Next
+fn next_of_turning_down(
+    phase: u8,
+    boot: BootStatus,
+    update: UpdateStatus,
+    flags: Flags,
+) -> Option<Operation>
     ensures { result ≡ ordered Job.TurnDown phase boot update flags }
 {
     match update {
-        UpdateStatus::Updating => Next::Do(Operation::EraseUpdateTrailer),
-        UpdateStatus::New => Next::Nothing,
+        UpdateStatus::Updating => Some(Operation::EraseUpdateTrailer),
+        UpdateStatus::New => None,
     }
 }
 
@@ -122,7 +137,7 @@ pub fn next_operation(
     boot: BootStatus,
     update: UpdateStatus,
     flags: Flags,
-) -> Next
+) -> Option<Operation>
     ensures { result ≡ ordered job phase boot update flags }
 {
     match job {

@@ -24,7 +24,7 @@ SectorWithin g (WriteUpdateStatus v) = Unit {0}
 
 -- a step, with the flash that it leaves
 abbrev pub stepped : StepAnswer → Flash → order.Step
-stepped r f = record { next = r.next; flash = f }
+stepped r f = record { next = r.done; flash = f }
 
 -- a run of steps from a budget, by what is carried at its end, with the flash that it leaves: the count is what the budget has lost
 abbrev pub ran : ℕ → Progress → Flash → order.Run
@@ -34,9 +34,9 @@ ran budget at f = record { count = budget - at.left; phase = at.phase; flash = f
 pub record Steps (job : Job) (g : Geometry) (at : Progress) (f : Flash) (r : StepAnswer) (f' : Flash) : Type 0 where
   -- whatever number is handed over as the front: the next operation is found by the flag there and no other, it is done, and what is handed
   -- on follows from it, with no look at the bytes
-  pub found : r.next ≡ next_at job g at f.boot f.update
-  pub done : f' ≡ order.perform_next g r.next f
-  pub handed : r.progress ≡ handed_on r.next at
+  pub found : r.done ≡ next_at job g at f.boot f.update
+  pub done : f' ≡ order.perform_next g r.done f
+  pub handed : r.progress ≡ handed_on r.done at
   -- handed the true front: it is the step of the rules, and the front that is handed on is what the scan gives of the bytes that are left
   pub ruled : Current g f.update at → stepped r f' ≡ order.step job g at.phase f
-  pub scanned : Current g f.update at → r.progress ≡ progress_scanned g f'.update r.next at
+  pub scanned : Current g f.update at → r.progress ≡ progress_scanned g f'.update r.done at

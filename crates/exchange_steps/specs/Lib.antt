@@ -1,2 +1,3 @@
 -- What the single step requires and answers.
+pub mod Lent
 pub mod Inner

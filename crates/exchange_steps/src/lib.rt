@@ -4,137 +4,133 @@
 ghost use Rattle.std.specs.Prelude.{◌≡◌, ◌<◌, ◌≤◌};
 ghost use Rattle.flash.specs.Sizes.{firmware};
 ghost use Rattle.flash.specs.Sectors.{erased};
-ghost use Rattle.flash.specs.Buffers.{flash, Shaped};
+ghost use Rattle.flash.specs.Buffers.{Shaped};
 ghost use Rattle.flash_flags.specs.Front.{WellFormed};
 ghost use Rattle.exchange.specs.Operations.{put, perform};
 ghost use Rattle.exchange.specs.Order.{run};
 ghost use Rattle.exchange_front.specs.Carried.{Current};
+ghost use Rattle.exchange_steps.specs.Lent.{bytes, SameFlash};
 ghost use Rattle.exchange_steps.specs.Inner.{SectorWithin, ran, Steps};
 
-use exchange::{Area, Job, Next, Operation};
+use exchange::{Area, Job, Operation};
 use exchange_front::Progress;
 use flash::{Geometry, SectorNumber};
 use flash_flags::Leg;
 
-// Erases sector i of an area. SWAP is one sector, whatever i.
-fn erase_in(
-    g: Geometry,
-    area: Area,
-    i: SectorNumber,
-    boot: &mut [u8],
-    update: &mut [u8],
-    swap: &mut [u8],
-)
-    requires { (Shaped g (flash boot.old update.old swap.old)) × (i.0 < g.sectors) }
-    ensures { flash boot.new update.new swap.new
-        ≡ put g area i.0 (erased g.size) (flash boot.old update.old swap.old) }
-{
-    match area {
-        Area::Boot => flash_sectors::erase_sector(g, boot, i),
-        Area::Update => flash_sectors::erase_sector(g, update, i),
-        Area::Swap => flash_sectors::erase(swap),
-    }
+// The three lent buffers, with their geometry, which the caller has checked.
+#[derive(Drop)]
+pub struct FlashMut<'b, 'u, 's> {
+    pub geometry: Geometry,
+    pub boot: &'b mut [u8],
+    pub update: &'u mut [u8],
+    pub swap: &'s mut [u8],
 }
 
-// Copies sector i from where to where the leg says.
-fn copy_for(
-    g: Geometry,
-    leg: Leg,
-    i: SectorNumber,
-    boot: &mut [u8],
-    update: &mut [u8],
-    swap: &mut [u8],
-)
-    requires { (Shaped g (flash boot.old update.old swap.old)) × (i.0 < g.sectors) }
-    ensures { flash boot.new update.new swap.new
-        ≡ perform g (Operation.Copy leg i) (flash boot.old update.old swap.old) }
-{
-    match leg {
-        Leg::UpdateToSwap => flash_sectors::copy_to_swap(g, swap, update, i),
-        Leg::BootToUpdate => flash_sectors::copy_sector(g, update, boot, i),
-        Leg::SwapToBoot => flash_sectors::copy_from_swap(g, boot, swap, i),
+impl<'b, 'u, 's> FlashMut<'b, 'u, 's> {
+    // Erases sector i of an area. SWAP is one sector, whatever i.
+    fn erase(&mut self, area: Area, i: SectorNumber)
+        requires { (Shaped self.old.geometry (bytes self.old)) × (i.0 < self.old.geometry.sectors) }
+        ensures same { SameFlash self.old self.new }
+        ensures bytes { bytes self.new
+            ≡ put self.old.geometry area i.0 (erased self.old.geometry.size) (bytes self.old) }
+    {
+        let g = self.geometry;
+        match area {
+            Area::Boot => flash_sectors::erase_sector(g, self.boot, i),
+            Area::Update => flash_sectors::erase_sector(g, self.update, i),
+            Area::Swap => flash_sectors::erase(self.swap),
+        }
     }
-}
 
-// One operation.
-pub fn do_operation(g: Geometry, op: Operation, boot: &mut [u8], update: &mut [u8], swap: &mut [u8])
-    requires { (Shaped g (flash boot.old update.old swap.old)) × (SectorWithin g op) }
-    ensures { flash boot.new update.new swap.new ≡ perform g op (flash boot.old update.old swap.old) }
-{
-    match op {
-        Operation::Erase(area, i) => erase_in(g, area, i, boot, update, swap),
-        Operation::Copy(leg, i) => copy_for(g, leg, i, boot, update, swap),
-        Operation::WriteFlag(i, flag) => flash_flags::write_flag(g, update, i, flag),
-        Operation::EraseBootTrailer => {
-            flash_sectors::erase_sector(g, boot, SectorNumber(g.firmware_sectors()))
+    // Copies sector i from where to where the leg says.
+    fn copy(&mut self, leg: Leg, i: SectorNumber)
+        requires { (Shaped self.old.geometry (bytes self.old)) × (i.0 < self.old.geometry.sectors) }
+        ensures same { SameFlash self.old self.new }
+        ensures bytes { bytes self.new ≡ perform self.old.geometry (Operation.Copy leg i) (bytes self.old) }
+    {
+        let g = self.geometry;
+        match leg {
+            Leg::UpdateToSwap => {
+                let update = &mut *self.update;
+                flash_sectors::copy_to_swap(g, self.swap, update, i)
+            }
+            Leg::BootToUpdate => {
+                let boot = &mut *self.boot;
+                flash_sectors::copy_sector(g, self.update, boot, i)
+            }
+            Leg::SwapToBoot => {
+                let swap = &mut *self.swap;
+                flash_sectors::copy_from_swap(g, self.boot, swap, i)
+            }
         }
-        Operation::EraseUpdateTrailer => {
-            flash_sectors::erase_sector(g, update, SectorNumber(g.firmware_sectors()))
+    }
+
+    // One operation.
+    pub fn do_operation(&mut self, op: Operation)
+        requires { (Shaped self.old.geometry (bytes self.old)) × (SectorWithin self.old.geometry op) }
+        ensures same { SameFlash self.old self.new }
+        ensures bytes { bytes self.new ≡ perform self.old.geometry op (bytes self.old) }
+    {
+        let g = self.geometry;
+        match op {
+            Operation::Erase(area, i) => self.erase(area, i),
+            Operation::Copy(leg, i) => self.copy(leg, i),
+            Operation::WriteFlag(i, flag) => flash_flags::write_flag(g, self.update, i, flag),
+            Operation::EraseBootTrailer => {
+                flash_sectors::erase_sector(g, self.boot, SectorNumber(g.firmware_sectors()))
+            }
+            Operation::EraseUpdateTrailer => {
+                flash_sectors::erase_sector(g, self.update, SectorNumber(g.firmware_sectors()))
+            }
+            Operation::WriteBootStatus(s) => flash_status::write_status(g, self.boot, s),
+            Operation::WriteUpdateStatus(s) => flash_status::write_status(g, self.update, s),
         }
-        Operation::WriteBootStatus(s) => flash_status::write_boot_status(g, boot, s),
-        Operation::WriteUpdateStatus(s) => flash_status::write_update_status(g, update, s),
+    }
+
+    // The single operation that is next, done. Power-up changes the flash by this function alone.
+    pub fn do_next(&mut self, job: Job, at: Progress) -> StepAnswer
+        requires { (Shaped self.old.geometry (bytes self.old)) × (at.front.0 ≤ firmware self.old.geometry) × (0 < at.left) }
+        ensures same { SameFlash self.old self.new }
+        ensures step { Steps job self.old.geometry at (bytes self.old) result (bytes self.new) }
+    {
+        let boot = &mut *self.boot;
+        let update = &mut *self.update;
+        let Some(op) = exchange_front::find_next(self.geometry, job, at, boot, update) else {
+            return StepAnswer {
+                done: None,
+                progress: at,
+            };
+        };
+        self.do_operation(op);
+        StepAnswer {
+            done: Some(op),
+            progress: exchange_front::carry_on(at, op),
+        }
+    }
+
+    // Steps, until nothing is next or the budget is used up.
+    pub fn repeat_step(&mut self, job: Job, budget: u64) -> Progress
+        requires { (Shaped self.old.geometry (bytes self.old)) × (WellFormed self.old.geometry self.old.update.now) }
+        ensures same { SameFlash self.old self.new }
+        ensures steps { (ran budget result (bytes self.new) ≡ run job self.old.geometry budget 0 (bytes self.old))
+            × (Current self.old.geometry self.new.update.now result) × (result.left ≤ budget) }
+    {
+        let update = &mut *self.update;
+        let mut at = exchange_front::begin(self.geometry, update, budget);
+        while 0 < at.left {
+            let step = self.do_next(job, at);
+            if step.done.is_none() {
+                return at;
+            }
+            at = step.progress;
+        }
+        at
     }
 }
 
 // The operation that a step did, if one was next, and what it carries on.
 #[derive(Clone, Copy)]
 pub struct StepAnswer {
-    pub next: Next,
+    pub done: Option<Operation>,
     pub progress: Progress,
-}
-
-// The single operation that is next, done. Power-up changes the flash by this function alone.
-pub fn do_next(
-    g: Geometry,
-    job: Job,
-    at: Progress,
-    boot: &mut [u8],
-    update: &mut [u8],
-    swap: &mut [u8],
-) -> StepAnswer
-    requires { (Shaped g (flash boot.old update.old swap.old)) × (at.front.0 ≤ firmware g) × (0 < at.left) }
-    ensures { Steps job g at (flash boot.old update.old swap.old)
-        result (flash boot.new update.new swap.new) }
-{
-    let next = exchange_front::find_next(g, job, at, boot, update);
-    match next {
-        Next::Do(op) => {
-            do_operation(g, op, boot, update, swap);
-            StepAnswer {
-                next,
-                progress: exchange_front::carry_on(at, op),
-            }
-        }
-        Next::Nothing => StepAnswer { next, progress: at },
-    }
-}
-
-// Steps, until nothing is next or the budget is used up.
-pub fn repeat_step(
-    g: Geometry,
-    job: Job,
-    boot: &mut [u8],
-    update: &mut [u8],
-    swap: &mut [u8],
-    budget: u64,
-) -> Progress
-    requires { (Shaped g (flash boot.old update.old swap.old)) × (WellFormed g update.old) }
-    ensures { (ran budget result (flash boot.new update.new swap.new)
-        ≡ run job g budget 0 (flash boot.old update.old swap.old))
-        × (Current g update.new result) × (result.left ≤ budget) }
-{
-    let mut at = exchange_front::begin(g, update, budget);
-    while 0 < at.left {
-        let step = do_next(g, job, at, boot, update, swap);
-        let next = step.next;
-        match next {
-            Next::Do(_) => {
-                at = step.progress;
-            }
-            Next::Nothing => {
-                return at;
-            }
-        }
-    }
-    at
 }

@@ -8,7 +8,7 @@ use native.Mathlib.Omega.{arith}
 use lib.ListN.{length}
 use Rattle.numbers.specs.Answer.{gives}
 use Rattle.flash.specs.declared.Geometry.{Geometry}
-use Rattle.flash.specs.declared.GeometryAnswer.TheVariants.{Outside}
+use Rattle.std.specs.Prelude.{None}
 use Rattle.flash.specs.Sizes.{geometry, partition_size, within_limits, Limits, geometry_answer, geometry_where, geometry_of}
 use Rattle.flash.specs.Sectors.{Partition}
 use Rattle.flash.specs.Buffers.{Flash, flash, partition_fits, fits, Shaped, partition_of, flash_of}
@@ -25,7 +25,7 @@ given : (b : Bool) (n s : ℕ) (g : Geometry) → gives g ≡ geometry_where b n
 given true n s g e = record { holds = refl; is = cc }
 given false n s g e = absurd (let z : ◌≡◌ {A = ℕ} 0 1 = cc in omega arith)
 
-not_given : (b : Bool) (n s : ℕ) → geometry_answer Outside ≡ geometry_where b n s → b ≡ false
+not_given : (b : Bool) (n s : ℕ) → geometry_answer None ≡ geometry_where b n s → b ≡ false
 not_given true n s e = absurd (let z : ◌≡◌ {A = ℕ} 0 1 = cc in omega arith)
 not_given false n s e = refl
 
@@ -41,11 +41,11 @@ limits_given n s g e = let t = rules_given n s g e in rw t.is (limits_of (geomet
 -- ---- with one partition
 
 module _ (n s : ℕ) (l : List ℕ) where
-  pub partition_outside : geometry_answer Outside ≡ geometry_of n s → geometry_answer Outside ≡ partition_of n s l
+  pub partition_outside : geometry_answer None ≡ geometry_of n s → geometry_answer None ≡ partition_of n s l
   partition_outside e = sym ((which_partitions n s l).refusal.1 (λ p. (which_are_taken n s).refusal.0 (sym e) p.0))
 
   module _ (g : Geometry) (e : gives g ≡ geometry_of n s) where
-    pub partition_unequal : length l ≢ partition_size g → geometry_answer Outside ≡ partition_of n s l
+    pub partition_unequal : length l ≢ partition_size g → geometry_answer None ≡ partition_of n s l
     partition_unequal h = sym ((which_partitions n s l).refusal.1 (λ p. h (p.1 ∙ ap partition_size (sym (rules_given n s g e).is))))
 
     pub partition_equal : length l ≡ partition_size g → gives g ≡ partition_of n s l
@@ -62,7 +62,7 @@ module _ (n s : ℕ) (l : List ℕ) where
 -- ---- with the three buffers
 
 module _ (n s : ℕ) (b u w : List ℕ) where
-  pub flash_outside : geometry_answer Outside ≡ partition_of n s b → geometry_answer Outside ≡ flash_of n s (flash b u w)
+  pub flash_outside : geometry_answer None ≡ partition_of n s b → geometry_answer None ≡ flash_of n s (flash b u w)
   flash_outside e = sym ((which_flashes n s (flash b u w)).refusal.1 (λ p. (which_partitions n s b).refusal.0 (sym e) (p.rules, p.boot)))
 
   module _ (g : Geometry) (e : gives g ≡ partition_of n s b) where
@@ -70,10 +70,10 @@ module _ (n s : ℕ) (b u w : List ℕ) where
     unfolding partition_of
     is_given = given (partition_fits (geometry n s) b) n s g e
 
-    pub update_unequal : length u ≢ length b → geometry_answer Outside ≡ flash_of n s (flash b u w)
+    pub update_unequal : length u ≢ length b → geometry_answer None ≡ flash_of n s (flash b u w)
     update_unequal h = sym ((which_flashes n s (flash b u w)).refusal.1 (λ p. h (p.update ∙ sym p.boot)))
 
-    pub swap_unequal : length w ≢ g.size → geometry_answer Outside ≡ flash_of n s (flash b u w)
+    pub swap_unequal : length w ≢ g.size → geometry_answer None ≡ flash_of n s (flash b u w)
     swap_unequal h = sym ((which_flashes n s (flash b u w)).refusal.1 (λ p. h (p.swap ∙ ap (λ (y : Geometry). y.size) (sym is_given.is))))
 
     pub flash_equal : length u ≡ length b → length w ≡ g.size → gives g ≡ flash_of n s (flash b u w)
@@ -101,6 +101,6 @@ flash_asked n s f g e = sym (given (fits (geometry n s) f) n s g e).is
 pub flash_fits : (n s : ℕ) (f : Flash) (g : Geometry) → gives g ≡ flash_of n s f → fits g f ≡ true
 flash_fits n s f g e = shaped_fits g f (flash_given_lem n s f g e)
 
-pub flash_unfit : (n s : ℕ) (f : Flash) → geometry_answer Outside ≡ flash_of n s f → fits (geometry n s) f ≡ false
+pub flash_unfit : (n s : ℕ) (f : Flash) → geometry_answer None ≡ flash_of n s f → fits (geometry n s) f ≡ false
 unfolding flash_of
 flash_unfit n s f e = not_given (fits (geometry n s) f) n s e

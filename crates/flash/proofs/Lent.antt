@@ -1,9 +1,7 @@
 -- Which lengths are taken, with which geometries. Assumes nothing.
-use Rattle.flash.specs.declared.Geometry.{Geometry}
-use mathlib.Core.Bool.{true}
-use Rattle.flash.specs.Sizes.{geometry, Limits}
+use Rattle.flash.specs.Sizes.{geometry}
 use Rattle.flash.specs.Buffers.{partition_fits, fits, partition_of, flash_of}
-use Rattle.flash.specs.Taken.{InRules, LentRight, WhichPartitions, WhichFlashes, WhichFit}
+use Rattle.flash.specs.Taken.{LentRight, WhichPartitions, WhichFlashes, WhichFit}
 use Rattle.flash.proofs.Taken.{taken_if}
 use Rattle.flash.proofs.Checked.{limits_rules, rules_limits, partition_of_lem, partition_fits_lem, shaped_of, shaped_fits}
 

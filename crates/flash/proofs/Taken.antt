@@ -9,7 +9,7 @@ use borrow.Author.Tests.{leb-true, eqb-true, le-leb, eq-eqb}
 use Rattle.numbers.specs.Answer.{Answer, gives, refused}
 use Rattle.numbers.proofs.Tests.{both}
 use Rattle.flash.specs.declared.Geometry.{Geometry}
-use Rattle.flash.specs.declared.GeometryAnswer.TheVariants.{Fits, Outside}
+use Rattle.std.specs.Prelude.{Some, None}
 use Rattle.flash.specs.Sizes.{geometry, firmware, trailer_length, within_limits, geometry_answer, geometry_where, geometry_of}
 use Rattle.flash.specs.Taken.{InRules, TakenIf, WhichAreTaken, TakenBefore, SomeAreTaken, SomeAreRefused, OnlyOneTooLong, TrailersNeed}
 
@@ -57,10 +57,10 @@ unfolding geometry_of
 which_are_taken n s = taken_if (InRules n s) (within_limits (geometry n s)) n s (rules_hold (geometry n s), tests_hold (geometry n s))
 
 -- the same of the code's answer
-pub inside : (n s : ℕ) → InRules n s → geometry_answer (Fits (geometry n s)) ≡ geometry_of n s
+pub inside : (n s : ℕ) → InRules n s → geometry_answer (Some (geometry n s)) ≡ geometry_of n s
 inside n s w = sym ((which_are_taken n s).taken.1 w)
 
-pub outside : (n s : ℕ) → (InRules n s → ⊥) → geometry_answer Outside ≡ geometry_of n s
+pub outside : (n s : ℕ) → (InRules n s → ⊥) → geometry_answer None ≡ geometry_of n s
 outside n s d = sym ((which_are_taken n s).refusal.1 d)
 
 pub taken_before : TakenBefore

@@ -1,9 +1,7 @@
 -- Document 01, "The flash": the geometry of a partition and its limits; document 02, "More sectors": as many as 512.
-use Rattle.std.specs.Prelude.{◌≡◌, Bool, cond, ◌&&◌, ℕ, ◌+◌, ◌-◌, ◌*◌, ◌/◌, ◌%◌, ◌≤◌, leb, eqb}
+use Rattle.std.specs.Prelude.{◌≡◌, Bool, cond, ◌&&◌, ℕ, ◌+◌, ◌-◌, ◌*◌, ◌/◌, ◌%◌, ◌≤◌, leb, eqb, Option, Some, None}
 use Rattle.numbers.specs.Answer.{Answer, gives, refused}
 use Rattle.flash.specs.declared.Geometry.{Geometry}
-use Rattle.flash.specs.declared.GeometryAnswer.{GeometryAnswer}
-use Rattle.flash.specs.declared.GeometryAnswer.TheVariants.{Fits, Outside}
 
 -- n sectors of s bytes
 abbrev pub geometry : ℕ → ℕ → Geometry
@@ -50,7 +48,7 @@ geometry_where b n s = cond b (gives (geometry n s)) (refused 1 0)
 unfoldable pub geometry_of : ℕ → ℕ → Answer Geometry
 geometry_of n s = geometry_where (within_limits (geometry n s)) n s
 
--- what each case of the code's answer says, for the contracts
-abbrev pub geometry_answer : GeometryAnswer → Answer Geometry
-geometry_answer (Fits g) = gives g
-geometry_answer Outside = refused 1 0
+-- what the code's answer says, for the contracts: no geometry is refusal 1
+abbrev pub geometry_answer : Option Geometry → Answer Geometry
+geometry_answer (Some g) = gives g
+geometry_answer None = refused 1 0

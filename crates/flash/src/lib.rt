@@ -22,13 +22,6 @@ pub struct Geometry {
     pub size: usize,
 }
 
-// What the check of a geometry, or of buffers for it, answers.
-#[derive(Clone, Copy)]
-pub enum GeometryAnswer {
-    Fits(Geometry),
-    Outside,
-}
-
 impl Geometry {
     pub const MIN_SECTORS: usize = 2;
 
@@ -40,30 +33,31 @@ impl Geometry {
 
     pub const SIZE_UNIT: usize = 256;
 
-    pub fn new(sectors: usize, size: usize) -> GeometryAnswer
+    // The geometry of `sectors` sectors of `size` bytes, if it is within the limits.
+    pub fn new(sectors: usize, size: usize) -> Option<Geometry>
         ensures { geometry_answer result ≡ geometry_of sectors size }
     {
         if sectors < Geometry::MIN_SECTORS {
-            return GeometryAnswer::Outside;
+            return None;
         }
         if Geometry::MAX_SECTORS < sectors {
-            return GeometryAnswer::Outside;
+            return None;
         }
         if size < Geometry::MIN_SIZE {
-            return GeometryAnswer::Outside;
+            return None;
         }
         if Geometry::MAX_SIZE < size {
-            return GeometryAnswer::Outside;
+            return None;
         }
         if size % Geometry::SIZE_UNIT != 0 {
-            return GeometryAnswer::Outside;
+            return None;
         }
         // The trailer fits one sector: a status byte, and half a byte for each firmware sector, rounded up.
         let m = sectors - 1;
         if size < 1 + (m + 1) / 2 {
-            return GeometryAnswer::Outside;
+            return None;
         }
-        GeometryAnswer::Fits(Geometry { sectors, size })
+        Some(Geometry { sectors, size })
     }
 
     // Document 01's m, which is also the number of the trailer sector.
@@ -92,18 +86,14 @@ pub fn partition_size(g: Geometry) -> usize
 }
 
 // The geometry of `sectors` sectors of `size` bytes, if it is within the limits and `partition` is one of its partitions.
-pub fn check_partition(sectors: usize, size: usize, partition: &[u8]) -> GeometryAnswer
+pub fn check_partition(sectors: usize, size: usize, partition: &[u8]) -> Option<Geometry>
     ensures { geometry_answer result ≡ partition_of sectors size partition.now }
 {
-    match Geometry::new(sectors, size) {
-        GeometryAnswer::Fits(g) => {
-            if partition.len() != partition_size(g) {
-                return GeometryAnswer::Outside;
-            }
-            GeometryAnswer::Fits(g)
-        }
-        GeometryAnswer::Outside => GeometryAnswer::Outside,
+    let g = Geometry::new(sectors, size)?;
+    if partition.len() != partition_size(g) {
+        return None;
     }
+    Some(g)
 }
 
 // The geometry of `sectors` sectors of `size` bytes, if it is within the limits and the three buffers have its lengths.
@@ -113,19 +103,15 @@ pub fn check_flash(
     boot: &[u8],
     update: &[u8],
     swap: &[u8],
-) -> GeometryAnswer
+) -> Option<Geometry>
     ensures { geometry_answer result ≡ flash_of sectors size (lent boot.entry update.entry swap.entry) }
 {
-    match check_partition(sectors, size, boot) {
-        GeometryAnswer::Fits(g) => {
-            if update.len() != boot.len() {
-                return GeometryAnswer::Outside;
-            }
-            if swap.len() != g.size {
-                return GeometryAnswer::Outside;
-            }
-            GeometryAnswer::Fits(g)
-        }
-        GeometryAnswer::Outside => GeometryAnswer::Outside,
+    let g = check_partition(sectors, size, boot)?;
+    if update.len() != boot.len() {
+        return None;
     }
+    if swap.len() != g.size {
+        return None;
+    }
+    Some(g)
 }

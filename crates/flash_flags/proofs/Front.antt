@@ -8,6 +8,7 @@ use native.Mathlib.Decide.{ℕ_discrete, dec_lt}
 use native.Mathlib.Omega.{arith}
 use lib.ListN.{length}
 use borrow.Author.Tests.{eq-eqb, ne_eqb}
+use Rattle.std.specs.Prelude.{Option, Some, None, MatchOption, unwrap_or}
 use Rattle.flash.specs.declared.Geometry.{Geometry}
 use Rattle.flash.specs.declared.SectorNumber.{SectorNumber}
 use Rattle.flash.specs.Sizes.{firmware, partition_size, most_sectors, Limits}
@@ -16,8 +17,6 @@ use Rattle.flash.proofs.Checked.{sectors_are, some_firmware}
 use Rattle.flash_status.specs.StatusBytes.{set_status_byte}
 use Rattle.flash_flags.specs.declared.Flag.{Flag}
 use Rattle.flash_flags.specs.declared.Flag.TheVariants.{Untouched, Saved, Moved, Exchanged}
-use Rattle.flash_flags.specs.declared.FlagRead.{FlagRead}
-use Rattle.flash_flags.specs.declared.FlagRead.TheVariants.{Known, Unknown}
 use Rattle.flash_flags.specs.declared.Leg.{Leg}
 use Rattle.flash_flags.specs.declared.Leg.TheVariants.{UpdateToSwap, BootToUpdate, SwapToBoot}
 use Rattle.flash_flags.specs.declared.Flags.{Flags}
@@ -35,22 +34,22 @@ sector_number_lem e = sym (ap (λ (x : SectorNumber). x.0) e)
 
 -- ---- it finds the first sector whose flag is not 0
 
-zero_is : (v : FlagRead) → is0 v ≡ true → v ≡ Known Exchanged
-zero_is (Known Exchanged) e = refl
-zero_is (Known Untouched) e = absurd (let z : ◌≡◌ {A = ℕ} 0 1 = cc in omega arith)
-zero_is (Known Saved) e = absurd (let z : ◌≡◌ {A = ℕ} 0 1 = cc in omega arith)
-zero_is (Known Moved) e = absurd (let z : ◌≡◌ {A = ℕ} 0 1 = cc in omega arith)
-zero_is Unknown e = absurd (let z : ◌≡◌ {A = ℕ} 0 1 = cc in omega arith)
+zero_is : (v : Option Flag) → is0 v ≡ true → v ≡ Some Exchanged
+zero_is (Some Exchanged) e = refl
+zero_is (Some Untouched) e = absurd (let z : ◌≡◌ {A = ℕ} 0 1 = cc in omega arith)
+zero_is (Some Saved) e = absurd (let z : ◌≡◌ {A = ℕ} 0 1 = cc in omega arith)
+zero_is (Some Moved) e = absurd (let z : ◌≡◌ {A = ℕ} 0 1 = cc in omega arith)
+zero_is None e = absurd (let z : ◌≡◌ {A = ℕ} 0 1 = cc in omega arith)
 
-zero_not : (v : FlagRead) → is0 v ≡ false → v ≢ Known Exchanged
+zero_not : (v : Option Flag) → is0 v ≡ false → v ≢ Some Exchanged
 zero_not v e q = let z : ◌≡◌ {A = ℕ} 0 1 = cc (ap is0 q) in omega arith
 
 -- of k sectors from sector i on
 record Found (g : Geometry) (u : List ℕ) (k i p : ℕ) : Type 0 where
   low : i ≤ p
   high : p ≤ i + k
-  before : (j : ℕ) → i ≤ j → j < p → flag_at g u j ≡ Known Exchanged
-  here : p < i + k → flag_at g u p ≢ Known Exchanged
+  before : (j : ℕ) → i ≤ j → j < p → flag_at g u j ≡ Some Exchanged
+  here : p < i + k → flag_at g u p ≢ Some Exchanged
 
 found : (g : Geometry) (u : List ℕ) (k i : ℕ) → Found g u k i (first_not0 i (flags_from g u k i))
 unfolding first_not0 flags_from
@@ -67,7 +66,7 @@ found g u (suc k) i = by (is0 (flag_at g u i)) refl (found g u k (suc i))
       here = λ a. f.here (omega arith);
     })
       where
-        first : (j : ℕ) → i ≤ j → j < first_not0 (suc i) (flags_from g u k (suc i)) → Dec (i ≡ j) → flag_at g u j ≡ Known Exchanged
+        first : (j : ℕ) → i ≤ j → j < first_not0 (suc i) (flags_from g u k (suc i)) → Dec (i ≡ j) → flag_at g u j ≡ Some Exchanged
         first j a b (yes q) = ap (flag_at g u) (sym q) ∙ zero_is (flag_at g u i) e
         first j a b (no q) = f.before j (omega arith) b
 
@@ -105,9 +104,19 @@ front_is g u i x = one_front g u (front g u) i (is_front g u) x
 pub front_exactly : FrontExactly
 front_exactly g u i = (λ e. subst (IsFront g u) e (is_front g u), front_is g u i)
 
+-- what the code's search of the sectors finds is the front; where it finds none, the front is m
+pub front_searched : (g : Geometry) (u : List ℕ) (m : ℕ) → m ≡ firmware g → (r : Option ℕ)
+    → MatchOption r ((k : ℕ) → 0 ≤ k → k < m → flag_at g u k ≡ Some Exchanged)
+    (λ i. (0 ≤ i) × (i < m) × (flag_at g u i ≢ Some Exchanged) × ((k : ℕ) → 0 ≤ k → k < i → flag_at g u k ≡ Some Exchanged))
+    → unwrap_or r m ≡ front g u
+front_searched g u m e (Some i) h =
+    sym (front_is g u i (record { within = omega (arith, h.1); before = λ j a. h.3 j (omega arith) a; here = λ a. h.2 }))
+front_searched g u m e None h =
+    sym (front_is g u m (record { within = omega arith; before = λ j a. h j (omega arith) a; here = λ a. absurd (omega arith) }))
+
 -- ---- what the flags show by it
 
-leg_not_0 : (leg : Leg) → Known (leg_flag leg) ≢ Known Exchanged
+leg_not_0 : (leg : Leg) → Some (leg_flag leg) ≢ Some Exchanged
 leg_not_0 UpdateToSwap e = let z : ◌≡◌ {A = ℕ} 0 1 = cc in omega arith
 leg_not_0 BootToUpdate e = let z : ◌≡◌ {A = ℕ} 0 1 = cc in omega arith
 leg_not_0 SwapToBoot e = let z : ◌≡◌ {A = ℕ} 0 1 = cc in omega arith
@@ -127,11 +136,11 @@ module _ (g : Geometry) (u : List ℕ) where
   front_0 e = front_is g u (firmware g) (record { within = omega arith; before = each_0 g u e; here = λ h. absurd (omega arith) })
 
   -- F only after sector i, as one test and sector by sector
-  after_all : (i : ℕ) → ((j : ℕ) → i < j → j < firmware g → flag_at g u j ≡ Known Untouched) → untouched_after g u i ≡ true
+  after_all : (i : ℕ) → ((j : ℕ) → i < j → j < firmware g → flag_at g u j ≡ Some Untouched) → untouched_after g u i ≡ true
   unfolding untouched_after
   after_all i h = all_f_from g u (firmware g - (i + 1)) (i + 1) (λ j a b. h j (omega arith) (omega arith))
 
-  after_each : (i : ℕ) → untouched_after g u i ≡ true → (j : ℕ) → i < j → j < firmware g → flag_at g u j ≡ Known Untouched
+  after_each : (i : ℕ) → untouched_after g u i ≡ true → (j : ℕ) → i < j → j < firmware g → flag_at g u j ≡ Some Untouched
   unfolding untouched_after
   after_each i e j a b = each_from g u (firmware g - (i + 1)) (i + 1) e j (omega arith) (omega arith)
 
@@ -166,13 +175,13 @@ module _ (g : Geometry) (u : List ℕ) where
     shown_end q = shown_all_0 g u (some_firmware g G) (λ j h. front_here.before j (omega arith))
 
     -- by the flag of a firmware sector
-    shown_front : i < firmware g → (leg : Leg) → flag_at g u i ≡ Known (leg_flag leg) → (i ≡ 0 → leg ≢ UpdateToSwap) → flags_at g u ≡ At (sector_number i) leg
+    shown_front : i < firmware g → (leg : Leg) → flag_at g u i ≡ Some (leg_flag leg) → (i ≡ 0 → leg ≢ UpdateToSwap) → flags_at g u ≡ At (sector_number i) leg
     shown_front h leg q n = shown_at g u i leg h q front_here.before (after_each i r) n
 
-    shown_unknown : i < firmware g → flag_at g u i ≡ Unknown → flags_at g u ≡ Malformed
+    shown_unknown : i < firmware g → flag_at g u i ≡ None → flags_at g u ≡ Malformed
     shown_unknown h q = by (flags_at g u) refl
       where
-        no_flag : (w : Flag) → flag_at g u i ≢ Known w
+        no_flag : (w : Flag) → flag_at g u i ≢ Some w
         no_flag w s = let z : ◌≡◌ {A = ℕ} 0 1 = cc (sym q ∙ s) in omega arith
 
         by : (w : Flags) → flags_at g u ≡ w → flags_at g u ≡ Malformed
@@ -184,13 +193,13 @@ module _ (g : Geometry) (u : List ℕ) where
     shown_own : i < firmware g → flags_at g u ≡ by_own_flag i (flag_at g u i)
     shown_own h = by (flag_at g u i) refl (ℕ_discrete i 0)
       where
-        by : (v : FlagRead) → flag_at g u i ≡ v → Dec (i ≡ 0) → flags_at g u ≡ by_own_flag i v
-        by (Known Untouched) q (yes n) = rw (eq-eqb i 0 n) (F-at-0 g u i n q (after_each i r))
-        by (Known Untouched) q (no n) = rw (ne_eqb i 0 n) (shown_front h UpdateToSwap q (λ z. absurd (n z)))
-        by (Known Saved) q d = shown_front h BootToUpdate q (λ n z. let x : ◌≡◌ {A = ℕ} 0 1 = cc in omega arith)
-        by (Known Moved) q d = shown_front h SwapToBoot q (λ n z. let x : ◌≡◌ {A = ℕ} 0 1 = cc in omega arith)
-        by (Known Exchanged) q d = absurd (front_here.here h q)
-        by Unknown q d = shown_unknown h q
+        by : (v : Option Flag) → flag_at g u i ≡ v → Dec (i ≡ 0) → flags_at g u ≡ by_own_flag i v
+        by (Some Untouched) q (yes n) = rw (eq-eqb i 0 n) (F-at-0 g u i n q (after_each i r))
+        by (Some Untouched) q (no n) = rw (ne_eqb i 0 n) (shown_front h UpdateToSwap q (λ z. absurd (n z)))
+        by (Some Saved) q d = shown_front h BootToUpdate q (λ n z. let x : ◌≡◌ {A = ℕ} 0 1 = cc in omega arith)
+        by (Some Moved) q d = shown_front h SwapToBoot q (λ n z. let x : ◌≡◌ {A = ℕ} 0 1 = cc in omega arith)
+        by (Some Exchanged) q d = absurd (front_here.here h q)
+        by None q d = shown_unknown h q
 
     shown_by_front : flags_at g u ≡ by_front (firmware g) i (flag_at g u i)
     shown_by_front = by (ℕ_discrete i (firmware g))
@@ -241,7 +250,7 @@ module _ (g : Geometry) (G : Limits g) (u : List ℕ) (U : length u ≡ partitio
 
   -- a flag is written at the front
   module _ (h : front g u < firmware g) where
-    others : (v : Flag) (j : ℕ) → j < front g u → flag_at g (set_flag g (front g u) v u) j ≡ Known Exchanged
+    others : (v : Flag) (j : ℕ) → j < front g u → flag_at g (set_flag g (front g u) v u) j ≡ Some Exchanged
     others v j a = flag_other g G u U (front g u) v h j (omega arith) (λ e. omega arith) ∙ (is_front g u).before j a
 
     front_kept : (v : Flag) → v ≢ Exchanged → front g (set_flag g (front g u) v u) ≡ front g u
@@ -252,10 +261,10 @@ module _ (g : Geometry) (G : Limits g) (u : List ℕ) (U : length u ≡ partitio
           here = λ a q. n (known (sym (flag_same g G u U (front g u) v h) ∙ q));
         })
       where
-        known : Known v ≡ Known Exchanged → v ≡ Exchanged
+        known : Some v ≡ Some Exchanged → v ≡ Exchanged
         known e = cc
 
-    front_moved : (suc (front g u) ≡ firmware g) ⊎ (flag_at g u (suc (front g u)) ≢ Known Exchanged) → front g (set_flag g (front g u) Exchanged u) ≡ suc (front g u)
+    front_moved : (suc (front g u) ≡ firmware g) ⊎ (flag_at g u (suc (front g u)) ≢ Some Exchanged) → front g (set_flag g (front g u) Exchanged u) ≡ suc (front g u)
     front_moved d =
         front_is g (set_flag g (front g u) Exchanged u) (suc (front g u)) (record {
           within = omega arith;
@@ -263,12 +272,12 @@ module _ (g : Geometry) (G : Limits g) (u : List ℕ) (U : length u ≡ partitio
           here = λ a q. next d a (sym (flag_other g G u U (front g u) Exchanged h (suc (front g u)) a (λ e. omega arith)) ∙ q);
         })
       where
-        by : (j : ℕ) → j ≤ front g u → Dec (j ≡ front g u) → flag_at g (set_flag g (front g u) Exchanged u) j ≡ Known Exchanged
+        by : (j : ℕ) → j ≤ front g u → Dec (j ≡ front g u) → flag_at g (set_flag g (front g u) Exchanged u) j ≡ Some Exchanged
         by j a (yes e) = ap (flag_at g (set_flag g (front g u) Exchanged u)) e ∙ flag_same g G u U (front g u) Exchanged h
         by j a (no e) = others Exchanged j (omega arith)
 
-        next : (suc (front g u) ≡ firmware g) ⊎ (flag_at g u (suc (front g u)) ≢ Known Exchanged) → suc (front g u) < firmware g
-            → flag_at g u (suc (front g u)) ≢ Known Exchanged
+        next : (suc (front g u) ≡ firmware g) ⊎ (flag_at g u (suc (front g u)) ≢ Some Exchanged) → suc (front g u) < firmware g
+            → flag_at g u (suc (front g u)) ≢ Some Exchanged
         next (inl e) a q = omega arith
         next (inr n) a q = n q
 
@@ -341,11 +350,11 @@ module _ (g : Geometry) (u : List ℕ) (P : Partition g u) (i : ℕ) (hi : i < f
       (moves_on_lem g P.limits u P.whole i leg hi (moves_leg g u i leg e))
 
   -- the sector after it is F, or there is none
-  next_not_0 : flags_at g u ≡ at_leg i SwapToBoot → (suc i ≡ firmware g) ⊎ (flag_at g u (suc i) ≢ Known Exchanged)
+  next_not_0 : flags_at g u ≡ at_leg i SwapToBoot → (suc i ≡ firmware g) ⊎ (flag_at g u (suc i) ≢ Some Exchanged)
   next_not_0 e = by (dec_lt (suc i) (firmware g))
     where
-      by : Dec (suc i < firmware g) → (suc i ≡ firmware g) ⊎ (flag_at g u (suc i) ≢ Known Exchanged)
-      by (yes h) = inr (λ q. leg_not_0 UpdateToSwap (ap Known (sym (moved_none (3 * i + 2 - 3 * suc i) (omega arith))) ∙ sym (moves_leg g u i SwapToBoot e (suc i) h) ∙ q))
+      by : Dec (suc i < firmware g) → (suc i ≡ firmware g) ⊎ (flag_at g u (suc i) ≢ Some Exchanged)
+      by (yes h) = inr (λ q. leg_not_0 UpdateToSwap (ap Some (sym (moved_none (3 * i + 2 - 3 * suc i) (omega arith))) ∙ sym (moves_leg g u i SwapToBoot e (suc i) h) ∙ q))
       by (no h) = inl (omega arith)
 
   pub front_on : (leg : Leg) → flags_at g u ≡ at_leg i leg → front g (set_flag g i (moved (suc (leg_moves leg))) u) ≡ following_sector leg i
@@ -354,8 +363,8 @@ module _ (g : Geometry) (u : List ℕ) (P : Partition g u) (i : ℕ) (hi : i < f
       W : FrontWritten g u
       W = writes_front g u P
 
-      not_0 : (v : Flag) → Known v ≢ Known Exchanged → v ≢ Exchanged
-      not_0 v h q = h (ap Known q)
+      not_0 : (v : Flag) → Some v ≢ Some Exchanged → v ≢ Exchanged
+      not_0 v h q = h (ap Some q)
 
       by : (leg : Leg) → flags_at g u ≡ at_leg i leg → front g u ≡ i → front g (set_flag g i (moved (suc (leg_moves leg))) u) ≡ following_sector leg i
       by UpdateToSwap e q = rw q at (W.flag Saved (not_0 Saved (leg_not_0 BootToUpdate)) (omega arith))

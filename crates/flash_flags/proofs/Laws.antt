@@ -9,6 +9,7 @@ use native.Mathlib.Decide.{ℕ_discrete}
 use native.Mathlib.Omega.{arith}
 use lib.ListN.{length, get_or, length-set}
 use lib.Seq.{get_or-set_same, get_or-set_other}
+use Rattle.std.specs.Prelude.{Some}
 use Rattle.numbers.specs.Answer.{gives}
 use Rattle.flash.specs.declared.Geometry.{Geometry}
 use Rattle.flash.specs.Sizes.{firmware, partition_size, Limits}
@@ -22,7 +23,6 @@ use Rattle.flash_status.specs.declared.UpdateStatus.{UpdateStatus}
 use Rattle.flash_status.specs.declared.UpdateStatus.TheVariants.{New as UpdateNew, Updating}
 use Rattle.flash_flags.specs.declared.Flag.{Flag}
 use Rattle.flash_flags.specs.declared.Flag.TheVariants.{Untouched, Saved, Moved, Exchanged}
-use Rattle.flash_flags.specs.declared.FlagRead.TheVariants.{Known}
 use Rattle.flash_flags.specs.declared.Flags.TheVariants.{AllF}
 use Rattle.flash_status.specs.StatusBytes.{status_place, status_byte, set_status_byte, boot_byte, boot_status_of, boot_status_at, set_boot_status, update_byte, update_status_of, update_status_at, set_update_status}
 use Rattle.flash_flags.specs.SectorFlags.{flag_value, flag_of, flag_byte, half, flag_at, set_flag, flags_at}
@@ -43,7 +43,7 @@ unfolding update_status_of
 reads_update UpdateNew = refl
 reads_update Updating = refl
 
-pub reads_flag : (v : Flag) → flag_of (flag_value v) ≡ Known v
+pub reads_flag : (v : Flag) → flag_of (flag_value v) ≡ Some v
 unfolding flag_of
 reads_flag Untouched = refl
 reads_flag Saved = refl
@@ -90,7 +90,7 @@ module _ (g : Geometry) (G : Limits g) where
     pub update_erased : update_status_at g (write_sector g (firmware g) (erased g.size) l) ≡ gives UpdateNew
     update_erased = ap update_status_of status_erased ∙ reads_update UpdateNew
 
-    pub flag_erased : (j : ℕ) → j < firmware g → flag_at g (write_sector g (firmware g) (erased g.size) l) j ≡ Known Untouched
+    pub flag_erased : (j : ℕ) → j < firmware g → flag_at g (write_sector g (firmware g) (erased g.size) l) j ≡ Some Untouched
     unfolding flag_at
     flag_erased j hj =
         ap (λ (b : ℕ). flag_of (half j b)) (trailer_byte g G l L (flag_byte g j) (flag_place j hj).0 (omega (arith, (flag_place j hj).1)))
@@ -124,7 +124,7 @@ module _ (g : Geometry) (G : Limits g) where
             ∙ half_other i j (get_or l (flag_byte g i) 0) (flag_value v) (value_small v) (λ k. h (omega arith))
             ∙ ap (λ (p : ℕ). half j (get_or l p 0)) (sym e)
 
-    pub flag_same : flag_at g (set_flag g i v l) i ≡ Known v
+    pub flag_same : flag_at g (set_flag g i v l) i ≡ Some v
     unfolding set_flag flag_at
     flag_same =
         ap (λ (b : ℕ). flag_of (half i b)) (get_or-set_same l (flag_byte g i) _ 0 (omega (arith, (flag_place i hi).1)))

@@ -1,5 +1,5 @@
 -- Document 02, "Keep the front": the first sector whose flag is not 0, over any bytes of UPDATE.
-use Rattle.std.specs.Prelude.{◌≡◌, ◌≢◌, ◌⊎◌, ◌↔◌, Bool, true, false, cond, List, [], ◌∷◌, ℕ, suc, ◌+◌, ◌-◌, ◌≤◌, ◌<◌, length, get_or, eqb}
+use Rattle.std.specs.Prelude.{◌≡◌, ◌≢◌, ◌⊎◌, ◌↔◌, Bool, true, false, cond, List, [], ◌∷◌, ℕ, suc, ◌+◌, ◌-◌, ◌≤◌, ◌<◌, length, get_or, eqb, Option, Some, None}
 use Rattle.flash.specs.declared.Geometry.{Geometry}
 use Rattle.flash.specs.declared.SectorNumber.{SectorNumber}
 use Rattle.flash.specs.Sizes.{geometry, firmware, Limits}
@@ -7,8 +7,6 @@ use Rattle.flash.specs.Sectors.{sector_number, Partition, write_sector, erased}
 use Rattle.flash_status.specs.StatusBytes.{set_status_byte}
 use Rattle.flash_flags.specs.declared.Flag.{Flag}
 use Rattle.flash_flags.specs.declared.Flag.TheVariants.{Untouched, Saved, Moved, Exchanged}
-use Rattle.flash_flags.specs.declared.FlagRead.{FlagRead}
-use Rattle.flash_flags.specs.declared.FlagRead.TheVariants.{Known, Unknown}
 use Rattle.flash_flags.specs.declared.Leg.{Leg}
 use Rattle.flash_flags.specs.declared.Leg.TheVariants.{UpdateToSwap, BootToUpdate, SwapToBoot}
 use Rattle.flash_flags.specs.declared.Flags.{Flags}
@@ -16,15 +14,15 @@ use Rattle.flash_flags.specs.declared.Flags.TheVariants.{Malformed, AllF, At, Al
 use Rattle.flash_flags.specs.SectorFlags.{flag_at, set_flag, flags_from, flags, all_f, flags_at}
 
 -- a flag is 0; a half byte that is no flag is not
-abbrev pub is0 : FlagRead → Bool
-is0 (Known Untouched) = false
-is0 (Known Saved) = false
-is0 (Known Moved) = false
-is0 (Known Exchanged) = true
-is0 Unknown = false
+abbrev pub is0 : Option Flag → Bool
+is0 (Some Untouched) = false
+is0 (Some Saved) = false
+is0 (Some Moved) = false
+is0 (Some Exchanged) = true
+is0 None = false
 
 -- the first sector whose flag is not 0, of some sectors in a row, the first of them sector i; where all are 0, the number after the last
-unfoldable pub first_not0 : ℕ → List FlagRead → ℕ
+unfoldable pub first_not0 : ℕ → List (Option Flag) → ℕ
 first_not0 i [] = i
 first_not0 i (v ∷ vs) = cond (is0 v) (first_not0 (suc i) vs) i
 
@@ -34,15 +32,15 @@ front g u = first_not0 0 (flags g u)
 
 -- What the flags show by a front i that is a firmware sector and its own flag v, if those after it are F only: all F, or the leg of sector
 -- i. No front has flag 0.
-abbrev pub by_own_flag : ℕ → FlagRead → Flags
-by_own_flag i (Known Untouched) = cond (eqb i 0) AllF (At (sector_number i) UpdateToSwap)
-by_own_flag i (Known Saved) = At (sector_number i) BootToUpdate
-by_own_flag i (Known Moved) = At (sector_number i) SwapToBoot
-by_own_flag i (Known Exchanged) = Malformed
-by_own_flag i Unknown = Malformed
+abbrev pub by_own_flag : ℕ → Option Flag → Flags
+by_own_flag i (Some Untouched) = cond (eqb i 0) AllF (At (sector_number i) UpdateToSwap)
+by_own_flag i (Some Saved) = At (sector_number i) BootToUpdate
+by_own_flag i (Some Moved) = At (sector_number i) SwapToBoot
+by_own_flag i (Some Exchanged) = Malformed
+by_own_flag i None = Malformed
 
 -- The same by any front of m firmware sectors: where it is m, all flags are 0.
-abbrev pub by_front : ℕ → ℕ → FlagRead → Flags
+abbrev pub by_front : ℕ → ℕ → Option Flag → Flags
 by_front m i v = cond (eqb i m) All0 (by_own_flag i v)
 
 -- the flags of the firmware sectors after sector i are F only
@@ -58,8 +56,8 @@ WellFormed g u = flags_at g u ≢ Malformed
 -- Sector i is the first whose flag is not 0; or i is m, and every flag is 0.
 pub record IsFront (g : Geometry) (u : List ℕ) (i : ℕ) : Type 0 where
   pub within : i ≤ firmware g
-  pub before : (j : ℕ) → j < i → flag_at g u j ≡ Known Exchanged
-  pub here : i < firmware g → flag_at g u i ≢ Known Exchanged
+  pub before : (j : ℕ) → j < i → flag_at g u j ≡ Some Exchanged
+  pub here : i < firmware g → flag_at g u i ≢ Some Exchanged
 
 -- The scan gives that number and no other, whatever the bytes are.
 abbrev pub FrontExactly : Type 0
@@ -91,7 +89,7 @@ pub record FrontWritten (g : Geometry) (u : List ℕ) : Type 0 where
   pub sector : (i : ℕ) (x : List ℕ) → i < firmware g → length x ≡ g.size → front g (write_sector g i x u) ≡ front g u
   pub status : (b : ℕ) → front g (set_status_byte g b u) ≡ front g u
   pub flag : (v : Flag) → v ≢ Exchanged → front g u < firmware g → front g (set_flag g (front g u) v u) ≡ front g u
-  pub flag0 : front g u < firmware g → (suc (front g u) ≡ firmware g) ⊎ (flag_at g u (suc (front g u)) ≢ Known Exchanged)
+  pub flag0 : front g u < firmware g → (suc (front g u) ≡ firmware g) ⊎ (flag_at g u (suc (front g u)) ≢ Some Exchanged)
       → front g (set_flag g (front g u) Exchanged u) ≡ suc (front g u)
 
 abbrev pub WritesFront : Type 0

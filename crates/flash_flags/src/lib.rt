@@ -2,6 +2,7 @@
 #![tactic(auto)]
 
 ghost use Rattle.std.specs.Prelude.{◌≡◌, ◌-◌, ◌≤◌, ◌<◌};
+ghost use Rattle.std.specs.Result.{result_ok};
 ghost use Rattle.flash.specs.Sizes.{firmware, Limits};
 ghost use Rattle.flash.specs.Sectors.{Partition, sector_number};
 ghost use Rattle.flash_flags.specs.SectorFlags.{flag_value, leg_flag, flag_of, flag_byte, half, with_half, flag_at, set_flag};
@@ -12,19 +13,12 @@ use flash::{ByteOffset, Geometry, SectorNumber};
 
 // A firmware sector's flag, document 01's F, 7, 3 and 0: nothing is done; UPDATE's sector is saved in SWAP; BOOT's is moved to UPDATE;
 // the two are exchanged.
-#[derive(Clone, Copy)]
+#[derive(Clone, Copy, PartialEq, Eq)]
 pub enum Flag {
     Untouched,
     Saved,
     Moved,
     Exchanged,
-}
-
-// What a half byte reads as: a flag, or a value that no flag has.
-#[derive(Clone, Copy)]
-pub enum FlagRead {
-    Known(Flag),
-    Unknown,
 }
 
 impl Flag {
@@ -35,57 +29,37 @@ impl Flag {
     pub const MOVED: u8 = 0x3;
 
     pub const EXCHANGED: u8 = 0x0;
+}
 
-    pub fn of(half: u8) -> FlagRead
-        ensures { result ≡ flag_of half }
-    {
+// A half byte that is no flag.
+#[derive(Clone, Copy, PartialEq, Eq)]
+pub struct UnknownFlag;
+
+impl TryFrom<u8> for Flag {
+    type Error = UnknownFlag;
+
+    ghost try_from_gives = { λ half r. result_ok r ≡ flag_of half };
+
+    fn try_from(half: u8) -> Result<Flag, UnknownFlag> {
         match half {
-            Flag::UNTOUCHED => FlagRead::Known(Flag::Untouched),
-            Flag::SAVED => FlagRead::Known(Flag::Saved),
-            Flag::MOVED => FlagRead::Known(Flag::Moved),
-            Flag::EXCHANGED => FlagRead::Known(Flag::Exchanged),
-            _ => FlagRead::Unknown,
-        }
-    }
-
-    pub fn value(self) -> u8
-        ensures { result ≡ flag_value self }
-    {
-        match self {
-            Flag::Untouched => Flag::UNTOUCHED,
-            Flag::Saved => Flag::SAVED,
-            Flag::Moved => Flag::MOVED,
-            Flag::Exchanged => Flag::EXCHANGED,
+            Flag::UNTOUCHED => Ok(Flag::Untouched),
+            Flag::SAVED => Ok(Flag::Saved),
+            Flag::MOVED => Ok(Flag::Moved),
+            Flag::EXCHANGED => Ok(Flag::Exchanged),
+            _ => Err(UnknownFlag),
         }
     }
 }
 
-impl FlagRead {
-    fn is_untouched(self) -> bool
-        ensures { result ≡ is_f self }
-    {
-        match self {
-            FlagRead::Unknown => false,
-            FlagRead::Known(flag) => match flag {
-                Flag::Untouched => true,
-                Flag::Saved => false,
-                Flag::Moved => false,
-                Flag::Exchanged => false,
-            },
-        }
-    }
+impl From<Flag> for u8 {
+    ghost from_gives = { λ flag half. half ≡ flag_value flag };
 
-    fn is_exchanged(self) -> bool
-        ensures { result ≡ is0 self }
-    {
-        match self {
-            FlagRead::Unknown => false,
-            FlagRead::Known(flag) => match flag {
-                Flag::Untouched => false,
-                Flag::Saved => false,
-                Flag::Moved => false,
-                Flag::Exchanged => true,
-            },
+    fn from(flag: Flag) -> u8 {
+        match flag {
+            Flag::Untouched => Flag::UNTOUCHED,
+            Flag::Saved => Flag::SAVED,
+            Flag::Moved => Flag::MOVED,
+            Flag::Exchanged => Flag::EXCHANGED,
         }
     }
 }
@@ -117,13 +91,13 @@ fn with_half(byte: u8, i: SectorNumber, value: u8) -> u8
     }
 }
 
-// The flag of firmware sector i.
-pub fn read_flag(g: Geometry, update: &[u8], i: SectorNumber) -> FlagRead
+// The flag of firmware sector i, or none for a half byte that is no flag.
+pub fn read_flag(g: Geometry, update: &[u8], i: SectorNumber) -> Option<Flag>
     requires { (Partition g update.now) × (i.0 < firmware g) }
     ensures { result ≡ flag_at g update.now i.0 }
 {
     let at = flag_offset(g, i).0;
-    Flag::of(half_of(update[at], i))
+    Flag::try_from(half_of(update[at], i)).ok()
 }
 
 // Sets the flag of firmware sector i: its half byte, and no other.
@@ -132,7 +106,7 @@ pub fn write_flag(g: Geometry, update: &mut [u8], i: SectorNumber, flag: Flag)
     ensures { update.new ≡ set_flag g i.0 flag update.old }
 {
     let at = flag_offset(g, i).0;
-    update[at] = with_half(update[at], i, flag.value());
+    update[at] = with_half(update[at], i, u8::from(flag));
 }
 
 // Document 01's leg: erase, copy and flag write of one sector, named by its copy. The flag shows which is next: F, 7 and 3, in this order.
@@ -171,17 +145,8 @@ fn untouched_from(g: Geometry, update: &[u8], start: SectorNumber) -> bool
     requires { Partition g update.now }
     ensures { result ≡ all_f (flags_from g update.now (firmware g - start.0) start.0) }
 {
-    let m = g.firmware_sectors();
-    let mut i = start.0;
-    while i < m {
-        let flag = read_flag(g, update, SectorNumber(i));
-        if flag.is_untouched() {
-            i += 1;
-        } else {
-            return false;
-        }
-    }
-    true
+    (start.0..g.firmware_sectors()).all(|i| read_flag(g, update, SectorNumber(i))
+        == Some(Flag::Untouched))
 }
 
 // The front of document 02: the first firmware sector whose flag is not 0, or m where all are 0, found by a scan from sector 0 up.
@@ -190,16 +155,8 @@ pub fn find_front(g: Geometry, update: &[u8]) -> SectorNumber
     ensures { result ≡ sector_number (front g update.now) }
 {
     let m = g.firmware_sectors();
-    let mut i = 0;
-    while i < m {
-        let flag = read_flag(g, update, SectorNumber(i));
-        if flag.is_exchanged() {
-            i += 1;
-        } else {
-            return SectorNumber(i);
-        }
-    }
-    SectorNumber(i)
+    let front = (0..m).find(|i| read_flag(g, update, SectorNumber(*i)) != Some(Flag::Exchanged));
+    SectorNumber(front.unwrap_or(m))
 }
 
 // What the flags show if `front` is the front and those after it are F only. No flag but the front's own is read.
@@ -211,20 +168,13 @@ pub fn flags_by_front(g: Geometry, update: &[u8], front: SectorNumber) -> Flags
         return Flags::All0;
     }
     match read_flag(g, update, front) {
-        FlagRead::Unknown => Flags::Malformed,
-        FlagRead::Known(flag) => match flag {
-            Flag::Untouched => {
-                if front.0 == 0 {
-                    Flags::AllF
-                } else {
-                    Flags::At(front, Leg::UpdateToSwap)
-                }
-            }
-            Flag::Saved => Flags::At(front, Leg::BootToUpdate),
-            Flag::Moved => Flags::At(front, Leg::SwapToBoot),
-            // No front has flag 0.
-            Flag::Exchanged => Flags::Malformed,
-        },
+        Some(Flag::Untouched) if front.0 == 0 => Flags::AllF,
+        Some(Flag::Untouched) => Flags::At(front, Leg::UpdateToSwap),
+        Some(Flag::Saved) => Flags::At(front, Leg::BootToUpdate),
+        Some(Flag::Moved) => Flags::At(front, Leg::SwapToBoot),
+        // No front has flag 0.
+        Some(Flag::Exchanged) => Flags::Malformed,
+        None => Flags::Malformed,
     }
 }
 

@@ -1,8 +1,7 @@
 -- Document 01, "The flash": what a copy leaves.
-use Rattle.std.specs.Prelude.{cond, List, ℕ, length, eqb}
+use Rattle.std.specs.Prelude.{cond, List, ℕ, length, eqb, Result, Ok, Err}
 use Rattle.numbers.specs.Answer.{Answer, gives, refused}
-use Rattle.flash_sectors.specs.declared.CopyAnswer.{CopyAnswer}
-use Rattle.flash_sectors.specs.declared.CopyAnswer.TheVariants.{Done, Unequal}
+use Rattle.flash_sectors.specs.declared.UnequalLengths.{UnequalLengths}
 
 -- what a copy answers, and the bytes of its target afterwards
 pub record Copy : Type 0 where
@@ -15,10 +14,10 @@ copy_of target source =
     cond (eqb (length target) (length source)) (record { answer = gives tt; bytes = source })
     (record { answer = refused 1 0; bytes = target })
 
--- what each case of the code's answer says, for the contracts; and beside it the target's bytes
-abbrev pub copy_answer : CopyAnswer → Answer (Unit {0})
-copy_answer Done = gives tt
-copy_answer Unequal = refused 1 0
+-- what the code's answer says, for the contracts; and beside it the target's bytes
+abbrev pub copy_answer : Result (Unit {0}) UnequalLengths → Answer (Unit {0})
+copy_answer (Ok t) = gives t
+copy_answer (Err e) = refused 1 0
 
-abbrev pub copied : CopyAnswer → List ℕ → Copy
+abbrev pub copied : Result (Unit {0}) UnequalLengths → List ℕ → Copy
 copied a l = record { answer = copy_answer a; bytes = l }

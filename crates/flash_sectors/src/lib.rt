@@ -12,33 +12,22 @@ use flash::{Geometry, SectorNumber};
 pub fn erase(sector: &mut [u8])
     ensures { sector.new ≡ erased (length sector.old) }
 {
-    let mut i = 0;
-    while i < sector.len() {
-        sector[i] = 0xFF;
-        i += 1;
-    }
+    sector.fill(0xFF);
 }
 
-// What a copy answers. Where the lengths are unequal no byte is changed.
-#[derive(Clone, Copy)]
-pub enum CopyAnswer {
-    Done,
-    Unequal,
-}
+// The two sectors of a copy differ in length. No byte is changed then.
+#[derive(Clone, Copy, PartialEq, Eq)]
+pub struct UnequalLengths;
 
 // Copies one sector over another; both are lent themselves, as for an erase.
-pub fn copy(target: &mut [u8], source: &[u8]) -> CopyAnswer
+pub fn copy(target: &mut [u8], source: &[u8]) -> Result<(), UnequalLengths>
     ensures { copied result target.new ≡ copy_of target.old source.now }
 {
     if target.len() != source.len() {
-        return CopyAnswer::Unequal;
+        return Err(UnequalLengths);
     }
-    let mut i = 0;
-    while i < target.len() {
-        target[i] = source[i];
-        i += 1;
-    }
-    CopyAnswer::Done
+    target.copy_from_slice(source);
+    Ok(())
 }
 
 // Erases sector i of a partition.
@@ -58,7 +47,7 @@ pub fn copy_to_swap(g: Geometry, swap: &mut [u8], partition: &[u8], i: SectorNum
 {
     let start = flash::offset_of(g, i).0;
     let size = g.size;
-    copy(swap, &partition[start..start + size]);
+    swap.copy_from_slice(&partition[start..start + size]);
 }
 
 // Copies SWAP to sector i of a partition.
@@ -68,7 +57,7 @@ pub fn copy_from_swap(g: Geometry, partition: &mut [u8], swap: &[u8], i: SectorN
 {
     let start = flash::offset_of(g, i).0;
     let size = g.size;
-    copy(&mut partition[start..start + size], swap);
+    partition[start..start + size].copy_from_slice(swap);
 }
 
 // Copies sector i of one partition to sector i of the other.
@@ -78,10 +67,7 @@ pub fn copy_sector(g: Geometry, target: &mut [u8], source: &[u8], i: SectorNumbe
 {
     let start = flash::offset_of(g, i).0;
     let size = g.size;
-    copy(
-        &mut target[start..start + size],
-        &source[start..start + size],
-    );
+    target[start..start + size].copy_from_slice(&source[start..start + size]);
 }
 
 // The firmware sectors of a partition.

@@ -1,18 +1,12 @@
 -- Document 01, "The flash": the status byte, the last of a partition. BOOT and UPDATE each have their own values.
-use Rattle.std.specs.Prelude.{cond, List, ℕ, ◌-◌, get_or, set, eqb}
+use Rattle.std.specs.Prelude.{cond, List, ℕ, ◌-◌, get_or, set, eqb, Option, Some, None, Result, Ok, Err}
 use Rattle.numbers.specs.Answer.{Answer, gives, refused}
 use Rattle.flash.specs.declared.Geometry.{Geometry}
 use Rattle.flash.specs.Sizes.{partition_size}
 use Rattle.flash_status.specs.declared.BootStatus.{BootStatus}
 use Rattle.flash_status.specs.declared.BootStatus.TheVariants.{New as BootNew, Testing, Success}
-use Rattle.flash_status.specs.declared.BootStatusAnswer.{BootStatusAnswer}
-use Rattle.flash_status.specs.declared.BootStatusAnswer.TheVariants.{Boot, NotAllowed as BootNotAllowed}
 use Rattle.flash_status.specs.declared.UpdateStatus.{UpdateStatus}
 use Rattle.flash_status.specs.declared.UpdateStatus.TheVariants.{New as UpdateNew, Updating}
-use Rattle.flash_status.specs.declared.UpdateStatusAnswer.{UpdateStatusAnswer}
-use Rattle.flash_status.specs.declared.UpdateStatusAnswer.TheVariants.{Update, NotAllowed as UpdateNotAllowed}
-use Rattle.flash_status.specs.declared.Statuses.{Statuses}
-use Rattle.flash_status.specs.declared.Statuses.TheVariants.{Allowed, NotAllowed}
 
 -- where the status byte stands: at a partition's very end
 abbrev pub status_place : Geometry → ℕ
@@ -67,15 +61,11 @@ both_statuses (refused n p) u = refused n p
 both_statuses (gives b) (refused n p) = refused n p
 both_statuses (gives b) (gives u) = gives (b, u)
 
--- what each case of the code's answers says, for the contracts
-abbrev pub boot_status_answer : BootStatusAnswer → Answer BootStatus
-boot_status_answer (Boot s) = gives s
-boot_status_answer BootNotAllowed = refused 10 0
+-- what the code's answers say, for the contracts: no status is refusal 10
+abbrev pub status_answer : {S E : Type 0} → Result S E → Answer S
+status_answer (Ok s) = gives s
+status_answer (Err e) = refused 10 0
 
-abbrev pub update_status_answer : UpdateStatusAnswer → Answer UpdateStatus
-update_status_answer (Update s) = gives s
-update_status_answer UpdateNotAllowed = refused 10 0
-
-abbrev pub statuses_of : Statuses → Answer (BootStatus × UpdateStatus)
-statuses_of (Allowed b u) = gives (b, u)
-statuses_of NotAllowed = refused 10 0
+abbrev pub statuses_answer : Option (BootStatus × UpdateStatus) → Answer (BootStatus × UpdateStatus)
+statuses_answer (Some s) = gives s
+statuses_answer None = refused 10 0

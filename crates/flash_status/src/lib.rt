@@ -1,28 +1,24 @@
 // The status bytes of BOOT and UPDATE, each the last byte of its partition.
 #![tactic(auto)]
 
-ghost use Rattle.std.specs.Prelude.{◌≡◌};
+ghost use Rattle.std.specs.Prelude.{◌≡◌, ℕ};
 ghost use Rattle.flash.specs.Sizes.{Limits};
 ghost use Rattle.flash.specs.Sectors.{Partition};
-ghost use Rattle.flash_status.specs.StatusBytes.{status_place, status_byte, set_status_byte, statuses_of, both_statuses};
-ghost use Rattle.flash_status.specs.StatusBytes.{boot_byte, boot_status_answer, boot_status_of, boot_status_at, set_boot_status};
-ghost use Rattle.flash_status.specs.StatusBytes.{update_byte, update_status_answer, update_status_of, update_status_at, set_update_status};
+ghost use Rattle.flash_status.specs.StatusBytes.{status_place, status_byte, set_status_byte, status_answer, statuses_answer, both_statuses};
+ghost use Rattle.flash_status.specs.StatusBytes.{boot_byte, boot_status_of, boot_status_at, update_byte, update_status_of, update_status_at};
 
 use flash::{ByteOffset, Geometry};
 
+// A byte that is no status of its partition.
+#[derive(Clone, Copy, PartialEq, Eq)]
+pub struct UnknownStatus;
+
 // What BOOT's status byte may hold.
-#[derive(Clone, Copy)]
+#[derive(Clone, Copy, PartialEq, Eq)]
 pub enum BootStatus {
     New,
     Testing,
     Success,
-}
-
-// BOOT's status, or a byte that BOOT may not hold.
-#[derive(Clone, Copy)]
-pub enum BootStatusAnswer {
-    Boot(BootStatus),
-    NotAllowed,
 }
 
 impl BootStatus {
@@ -31,22 +27,28 @@ impl BootStatus {
     pub const TESTING: u8 = 0x10;
 
     pub const SUCCESS: u8 = 0x00;
+}
 
-    pub fn of(byte: u8) -> BootStatusAnswer
-        ensures { boot_status_answer result ≡ boot_status_of byte }
-    {
+impl TryFrom<u8> for BootStatus {
+    type Error = UnknownStatus;
+
+    ghost try_from_gives = { λ byte r. status_answer r ≡ boot_status_of byte };
+
+    fn try_from(byte: u8) -> Result<BootStatus, UnknownStatus> {
         match byte {
-            BootStatus::NEW => BootStatusAnswer::Boot(BootStatus::New),
-            BootStatus::TESTING => BootStatusAnswer::Boot(BootStatus::Testing),
-            BootStatus::SUCCESS => BootStatusAnswer::Boot(BootStatus::Success),
-            _ => BootStatusAnswer::NotAllowed,
+            BootStatus::NEW => Ok(BootStatus::New),
+            BootStatus::TESTING => Ok(BootStatus::Testing),
+            BootStatus::SUCCESS => Ok(BootStatus::Success),
+            _ => Err(UnknownStatus), // BOOT may hold no other byte
         }
     }
+}
 
-    pub fn byte(self) -> u8
-        ensures { result ≡ boot_byte self }
-    {
-        match self {
+impl From<BootStatus> for u8 {
+    ghost from_gives = { λ status byte. byte ≡ boot_byte status };
+
+    fn from(status: BootStatus) -> u8 {
+        match status {
             BootStatus::New => BootStatus::NEW,
             BootStatus::Testing => BootStatus::TESTING,
             BootStatus::Success => BootStatus::SUCCESS,
@@ -55,38 +57,37 @@ impl BootStatus {
 }
 
 // What UPDATE's status byte may hold.
-#[derive(Clone, Copy)]
+#[derive(Clone, Copy, PartialEq, Eq)]
 pub enum UpdateStatus {
     New,
     Updating,
-}
-
-// UPDATE's status, or a byte that UPDATE may not hold.
-#[derive(Clone, Copy)]
-pub enum UpdateStatusAnswer {
-    Update(UpdateStatus),
-    NotAllowed,
 }
 
 impl UpdateStatus {
     pub const NEW: u8 = 0xFF;
 
     pub const UPDATING: u8 = 0x70;
+}
 
-    pub fn of(byte: u8) -> UpdateStatusAnswer
-        ensures { update_status_answer result ≡ update_status_of byte }
-    {
+impl TryFrom<u8> for UpdateStatus {
+    type Error = UnknownStatus;
+
+    ghost try_from_gives = { λ byte r. status_answer r ≡ update_status_of byte };
+
+    fn try_from(byte: u8) -> Result<UpdateStatus, UnknownStatus> {
         match byte {
-            UpdateStatus::NEW => UpdateStatusAnswer::Update(UpdateStatus::New),
-            UpdateStatus::UPDATING => UpdateStatusAnswer::Update(UpdateStatus::Updating),
-            _ => UpdateStatusAnswer::NotAllowed,
+            UpdateStatus::NEW => Ok(UpdateStatus::New),
+            UpdateStatus::UPDATING => Ok(UpdateStatus::Updating),
+            _ => Err(UnknownStatus), // UPDATE may hold no other byte
         }
     }
+}
 
-    pub fn byte(self) -> u8
-        ensures { result ≡ update_byte self }
-    {
-        match self {
+impl From<UpdateStatus> for u8 {
+    ghost from_gives = { λ status byte. byte ≡ update_byte status };
+
+    fn from(status: UpdateStatus) -> u8 {
+        match status {
             UpdateStatus::New => UpdateStatus::NEW,
             UpdateStatus::Updating => UpdateStatus::UPDATING,
         }
@@ -101,73 +102,29 @@ fn status_offset(g: Geometry) -> ByteOffset
     ByteOffset(flash::partition_size(g) - 1)
 }
 
-// The status byte of a partition.
-fn read_status_byte(g: Geometry, partition: &[u8]) -> u8
+// The status of a partition: BOOT's as a `BootStatus`, UPDATE's as an `UpdateStatus`.
+pub fn read_status<S: TryFrom<u8>>(g: Geometry, partition: &[u8]) -> Result<S, S::Error>
     requires { Partition g partition.now }
-    ensures { result ≡ status_byte g partition.now }
+    ensures { S.try_from_gives (status_byte g partition.now) result }
 {
-    let at = status_offset(g).0;
-    partition[at]
+    S::try_from(partition[status_offset(g).0])
 }
 
-// Sets the status byte of a partition, and no other.
-fn write_status_byte(g: Geometry, partition: &mut [u8], byte: u8)
+// Sets the status of a partition to the byte that it is, and no other byte.
+pub fn write_status<S: Into<u8>>(g: Geometry, partition: &mut [u8], status: S)
     requires { Partition g partition.old }
-    ensures { partition.new ≡ set_status_byte g byte partition.old }
+    ensures { (byte : ℕ) × S.converts status byte
+        × (partition.new ≡ set_status_byte g byte partition.old) }
 {
-    let at = status_offset(g).0;
-    partition[at] = byte;
+    partition[status_offset(g).0] = status.into();
 }
 
-// BOOT's status.
-pub fn read_boot_status(g: Geometry, boot: &[u8]) -> BootStatusAnswer
-    requires { Partition g boot.now }
-    ensures { boot_status_answer result ≡ boot_status_at g boot.now }
-{
-    BootStatus::of(read_status_byte(g, boot))
-}
-
-// Sets BOOT's status.
-pub fn write_boot_status(g: Geometry, boot: &mut [u8], status: BootStatus)
-    requires { Partition g boot.old }
-    ensures { boot.new ≡ set_boot_status g status boot.old }
-{
-    write_status_byte(g, boot, status.byte());
-}
-
-// UPDATE's status.
-pub fn read_update_status(g: Geometry, update: &[u8]) -> UpdateStatusAnswer
-    requires { Partition g update.now }
-    ensures { update_status_answer result ≡ update_status_at g update.now }
-{
-    UpdateStatus::of(read_status_byte(g, update))
-}
-
-// Sets UPDATE's status.
-pub fn write_update_status(g: Geometry, update: &mut [u8], status: UpdateStatus)
-    requires { Partition g update.old }
-    ensures { update.new ≡ set_update_status g status update.old }
-{
-    write_status_byte(g, update, status.byte());
-}
-
-// BOOT's and UPDATE's status, where both bytes are allowed.
-#[derive(Clone, Copy)]
-pub enum Statuses {
-    Allowed(BootStatus, UpdateStatus),
-    NotAllowed,
-}
-
-// BOOT is looked at first.
-pub fn read_statuses(g: Geometry, boot: &[u8], update: &[u8]) -> Statuses
+// BOOT's and UPDATE's status, where both bytes are allowed. BOOT is looked at first.
+pub fn read_statuses(g: Geometry, boot: &[u8], update: &[u8]) -> Option<(BootStatus, UpdateStatus)>
     requires { (Partition g boot.now) × (Partition g update.now) }
-    ensures { statuses_of result ≡ both_statuses (boot_status_at g boot.now) (update_status_at g update.now) }
+    ensures { statuses_answer result ≡ both_statuses (boot_status_at g boot.now) (update_status_at g update.now) }
 {
-    match read_boot_status(g, boot) {
-        BootStatusAnswer::Boot(b) => match read_update_status(g, update) {
-            UpdateStatusAnswer::Update(u) => Statuses::Allowed(b, u),
-            UpdateStatusAnswer::NotAllowed => Statuses::NotAllowed,
-        },
-        BootStatusAnswer::NotAllowed => Statuses::NotAllowed,
-    }
+    let b = read_status(g, boot).ok()?;
+    let u = read_status(g, update).ok()?;
+    Some((b, u))
 }

@@ -1,32 +1,58 @@
 -- What the table makes of a tag, and of the end. Assumes nothing.
-use mathlib.Core.Path.{◌≡◌, sym, ap, ◌∙◌}
+use mathlib.Core.Path.{◌≡◌, refl, sym, ap, ◌∙◌}
 use Prim.Native.Nat.{ℕ, suc, ◌+◌, ◌<◌, ◌≤◌}
 use mathlib.Core.List.{List}
-use native.Mathlib.Numerals.{add-one}
-use lib.ListN.{length, get_or, drop, take, set, replicate, drop_of_length-le}
-use lib.Seq.{drop-cons}
-use borrow.Author.Tests.{lt-ltb, le-ltb, eq-eqb, ne_eqb}
+use mathlib.Core.Bool.{Bool, true, false, cond}
+use native.Mathlib.Omega.{arith}
+use lib.Dec.{ltb, eqb}
+use lib.ListN.{length, get_or, take, set, replicate}
+use lib.Seq.{length-take-le}
+use borrow.Author.Tests.{lt-ltb, le-ltb, ltb-true, ltb-false}
+use Rattle.std.proofs.Common.{Some, None, ◌==◌, Ok, Err}
+use Rattle.std.specs.Prelude.{Result}
+use Rattle.std.specs.Result.{IsErrAnd}
+use Rattle.std.specs.List.{position, position_or_len}
+use Rattle.std.proofs.lemmas.List.Recursion.{is_position_or_len}
 use Rattle.numbers.specs.Answer.{Answer, gives, refused}
-use Rattle.header_tags.specs.Walk.{Item, item_of, next_item, on_item, tags_at}
-use Rattle.header_tags.specs.declared.Tag.{Tag}
-use Rattle.header_tags.specs.declared.Tag.TheVariants.{Found, End, TooShort, DoesNotFit, NoEnd}
+use Rattle.numbers.specs.declared.Refused.{Refused}
+use Rattle.numbers.specs.GivenBack.{refused_with, answer_by}
+use Rattle.header_tags.specs.Walk.{Item, tag, end, next_item, on_item, tags_at}
 use Rattle.header_tags.proofs.Laws.{tags_step, next_within}
 use Rattle.header_places.specs.Table.{TagTable}
 use Rattle.header_places.specs.Judging.{row_of, judge, places_in}
 use Rattle.header_places.proofs.RuledOut.{other_tag, critical_tag, length_tag, repeated_tag, taken_tag}
 
-module _ (l : List ℕ) (x i : ℕ) where
-  pub row_here : i < length l → get_or l i 0 ≡ x → row_of (drop i l) x ≡ 0
-  unfolding row_of
-  row_here a b = rw (drop-cons l i 0 a, row_of, eq-eqb _ _ b)
+-- a place n that is told if it is below k
+module _ (n k : ℕ) where
+  told_is : {r : ℕ} → Some r ≡ cond (ltb n k) (Some n) None → (r ≡ n) × (r < k)
+  told_is {r} e = go (ltb n k) refl e
+    where
+      go : (b : Bool) → ltb n k ≡ b → Some r ≡ cond b (Some n) None → (r ≡ n) × (r < k)
+      go true d e = let i : r ≡ n = cc in (i, omega (arith, ltb-true n k d))
+      go false d e = let z : ◌≡◌ {A = ℕ} 0 1 = cc in absurd (omega arith)
 
-  pub row_next : i < length l → (get_or l i 0 ≡ x → ⊥) → row_of (drop i l) x ≡ suc (row_of (drop (i + 1) l) x)
-  unfolding row_of
-  row_next a b = rw (add-one, drop-cons l i 0 a, row_of, ne_eqb _ _ b)
+  none_is : None ≡ cond (ltb n k) (Some n) None → k ≤ n
+  none_is e = go (ltb n k) refl e
+    where
+      go : (b : Bool) → ltb n k ≡ b → None ≡ cond b (Some n) None → k ≤ n
+      go true d e = let z : ◌≡◌ {A = ℕ} 0 1 = cc in absurd (omega arith)
+      go false d e = ltb-false n k d
 
-  pub row_end : length l ≤ i → row_of (drop i l) x ≡ 0
+-- what the code tells of a row: where it found one, and where it found none
+module _ (l : List ℕ) (x : ℕ) where
+  row_first : row_of l x ≡ position_or_len (λ (y : ℕ). y == x) l
   unfolding row_of
-  row_end a = rw (drop_of_length-le l a)
+  row_first = is_position_or_len (λ k. row_of k x) (λ (y : ℕ). y == x) refl (λ y ys. go (eqb y x) (row_of ys x)) l
+    where
+      go : (b : Bool) (n : ℕ) → (elim b as (λ (_ : Bool). ℕ) [ true ↦ 0 | false ↦ suc n ]) ≡ cond b 0 (1 + n)
+      go true n = refl
+      go false n = omega arith
+
+  pub row_is : {r : ℕ} → Some r ≡ position (λ (y : ℕ). y == x) l → (r ≡ row_of l x) × (r < length l)
+  row_is e = rw row_first (told_is _ _ e)
+
+  pub no_row : None ≡ position (λ (y : ℕ). y == x) l → length l ≤ row_of l x
+  no_row e = rw row_first (none_is _ _ e)
 
 -- From the place `at` on, with the places seen, the answer is O. A record, so that the laws below take its parameters implicitly.
 pub record Goes (T : TagTable) (seen h : List ℕ) (at : ℕ) (O : Answer (List ℕ)) : Type 0 where
@@ -37,55 +63,60 @@ pub begun : (T : TagTable) (h : List ℕ) (n : ℕ) → length T.types ≡ n →
 unfolding places_in
 begun T h n e = record { is = ap (λ (k : ℕ). judge T (replicate k 0) (tags_at h 8)) (sym e) }
 
--- what the first tag from a place on makes of the tags from there on
-first : {T : TagTable} {seen h : List ℕ} {at : ℕ} {O : Answer (List ℕ)} {t u : Tag} → Goes T seen h at O → item_of t ≡ next_item h at
-    → t ≡ u → judge T seen (on_item (item_of u) (λ q. tags_at h q)) ≡ O
-first {T} {seen} {h} {at} inv g e =
-    ap (λ (x : Answer Item). judge T seen (on_item x (λ q. tags_at h q))) (ap item_of (sym e) ∙ g)
-    ∙ ap (judge T seen) (sym (tags_step h at))
-    ∙ inv.is
+-- what the next item from a place on makes of the tags from there on
+first : {T : TagTable} {seen h : List ℕ} {at : ℕ} {O : Answer (List ℕ)} {a : Answer Item} → Goes T seen h at O → a ≡ next_item h at
+    → judge T seen (on_item a (λ q. tags_at h q)) ≡ O
+first {T} {seen} {h} {at} inv g =
+    ap (λ (x : Answer Item). judge T seen (on_item x (λ q. tags_at h q))) g ∙ ap (judge T seen) (sym (tags_step h at)) ∙ inv.is
 
-module _ {T : TagTable} {seen h : List ℕ} {at : ℕ} {O : Answer (List ℕ)} {t : Tag} {q k n : ℕ} (inv : Goes T seen h at O)
-    (g : item_of t ≡ next_item h at) (e : t ≡ Found q k n) where
+module _ {T : TagTable} {seen h : List ℕ} {at : ℕ} {O : Answer (List ℕ)} {q k n : ℕ} (inv : Goes T seen h at O)
+    (g : gives (tag q k n) ≡ next_item h at) where
   -- a tag that is found lies behind the place, and within the header
   pub tag_in : (at ≤ q) × (q + 4 + n ≤ length h)
-  tag_in = next_within h at (sym g ∙ ap item_of e)
+  tag_in = next_within h at (sym g)
 
-  module _ {r : ℕ} (row : r ≡ row_of T.types k) where
-    pub skipped : length T.types ≤ r → k < T.critical → Goes T seen h (q + 4 + n) O
-    skipped a b = record { is = sym (other_tag T seen q k n _ (sym row) a b) ∙ first inv g e }
+  module _ (none : None ≡ position (λ (y : ℕ). y == k) T.types) where
+    pub skipped : k < T.critical → Goes T seen h (q + 4 + n) O
+    skipped b = record { is = sym (other_tag T seen q k n _ refl (no_row _ _ none) b) ∙ first inv g }
 
-    pub not_understood_lem : length T.types ≤ r → T.critical ≤ k → refused 18 q ≡ O
-    not_understood_lem a b = sym (critical_tag T seen q k n _ (sym row) a b) ∙ first inv g e
+    pub not_understood_lem : T.critical ≤ k → refused 18 q ≡ O
+    not_understood_lem b = sym (critical_tag T seen q k n _ refl (no_row _ _ none) b) ∙ first inv g
 
-    pub wrong_length_lem : r < length T.types → (n ≡ get_or T.lengths r 0 → ⊥) → refused 5 q ≡ O
-    wrong_length_lem a b = sym (length_tag T seen q k n _ (sym row) a b) ∙ first inv g e
+  module _ {r : ℕ} (some : Some r ≡ position (λ (y : ℕ). y == k) T.types) where
+    pub wrong_length_lem : (n ≡ get_or T.lengths r 0 → ⊥) → refused 5 q ≡ O
+    wrong_length_lem b = let w = row_is _ _ some in sym (length_tag T seen q k n _ (sym w.0) w.1 b) ∙ first inv g
 
-    pub repeated : r < length T.types → n ≡ get_or T.lengths r 0 → (get_or seen r 0 ≡ 0 → ⊥) → refused 6 q ≡ O
-    repeated a b d = sym (repeated_tag T seen q k n _ (sym row) a b d) ∙ first inv g e
+    pub repeated : n ≡ get_or T.lengths r 0 → (get_or seen r 0 ≡ 0 → ⊥) → refused 6 q ≡ O
+    repeated b d = let w = row_is _ _ some in sym (repeated_tag T seen q k n _ (sym w.0) w.1 b d) ∙ first inv g
 
-    pub taken : r < length T.types → n ≡ get_or T.lengths r 0 → get_or seen r 0 ≡ 0 → Goes T (set seen r q) h (q + 4 + n) O
-    taken a b d = record { is = sym (taken_tag T seen q k n _ (sym row) a b d) ∙ first inv g e }
+    pub taken : n ≡ get_or T.lengths r 0 → get_or seen r 0 ≡ 0 → Goes T (set seen r q) h (q + 4 + n) O
+    taken b d = let w = row_is _ _ some in record { is = sym (taken_tag T seen q k n _ (sym w.0) w.1 b d) ∙ first inv g }
 
-module _ {T : TagTable} {seen h : List ℕ} {at : ℕ} {O : Answer (List ℕ)} {t : Tag} (inv : Goes T seen h at O)
-    (g : item_of t ≡ next_item h at) where
-  module _ {r : ℕ} (e : t ≡ End) (row : r ≡ row_of (take T.required seen) 0) where
-    pub lacks : r < T.required → refused 8 (get_or T.types r 0) ≡ O
+module _ {T : TagTable} {seen h : List ℕ} {at : ℕ} {O : Answer (List ℕ)} (inv : Goes T seen h at O) where
+  module _ (g : gives end ≡ next_item h at) (room : T.required ≤ length seen) where
+    long : length (take T.required seen) ≡ T.required
+    long = length-take-le T.required seen room
+
+    pub lacks : {r : ℕ} → Some r ≡ position (λ (y : ℕ). y == 0) (take T.required seen) → refused 8 (get_or T.types r 0) ≡ O
     unfolding judge
-    lacks a = simp (← row, lt-ltb _ _ a) at (first inv g e)
+    lacks {r} e =
+        let w = row_is (take T.required seen) 0 e in
+        let lt : r < T.required = omega (arith, w.1, long) in
+        simp (← w.0, lt-ltb _ _ lt) at (first inv g)
 
-    pub whole : T.required ≤ r → gives seen ≡ O
+    pub whole : None ≡ position (λ (y : ℕ). y == 0) (take T.required seen) → gives seen ≡ O
     unfolding judge
-    whole a = simp (← row, le-ltb _ _ a) at (first inv g e)
+    whole e =
+        let le : T.required ≤ row_of (take T.required seen) 0 = omega (arith, no_row (take T.required seen) 0 e, long) in
+        simp (le-ltb _ _ le) at (first inv g)
 
-  pub too_short : t ≡ TooShort → refused 16 0 ≡ O
+  -- the walk breaks
+  pub breaks : {m p : ℕ} → refused m p ≡ next_item h at → refused m p ≡ O
   unfolding judge
-  too_short e = first inv g e
+  breaks g = first inv g
 
-  pub does_not_fit_lem : {p : ℕ} → t ≡ DoesNotFit p → refused 4 p ≡ O
-  unfolding judge
-  does_not_fit_lem e = first inv g e
-
-  pub no_end : {p : ℕ} → t ≡ NoEnd p → refused 7 p ≡ O
-  unfolding judge
-  no_end e = first inv g e
+-- a refusal that is handed on has the same number and place
+pub told : {A E : Type 0} (says : E → Refused) (r : Result A E) {x : Refused} {O : Answer A} → IsErrAnd r (λ e. says e ≡ x) → refused_with x ≡ O
+    → answer_by says r ≡ O
+told says (Ok a) e f = absurd e
+told says (Err h) e f = ap refused_with e ∙ f

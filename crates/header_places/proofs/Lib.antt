@@ -4,4 +4,3 @@ pub mod Understood
 pub mod Judged
 pub mod Before
 pub mod Fitting
-pub mod Refusals

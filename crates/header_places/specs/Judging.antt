@@ -1,10 +1,8 @@
 -- Document 01, "The header", with document 02, "Tags that must be understood": the tags in their order, judged by the table.
-use Rattle.std.specs.Prelude.{◌≡◌, ℕ, suc, ◌+◌, ◌≤◌, ◌<◌, List, [], ◌∷◌, true, false, cond, length, get_or, set, take, replicate, ltb, eqb}
+use Rattle.std.specs.Prelude.{ℕ, suc, ◌+◌, ◌≤◌, ◌<◌, List, [], ◌∷◌, true, false, cond, length, get_or, set, take, replicate, ltb, eqb}
 use Rattle.numbers.specs.Answer.{Answer, gives, refused}
 use Rattle.header_tags.specs.Walk.{first_tag, Tags, ended, broken, more, tags_at}
 use Rattle.header_places.specs.Table.{TagTable}
-use Rattle.numbers.specs.GivenBack.{header_answer}
-use Rattle.header_places.specs.declared.Places.{Places}
 
 -- The first row at which x stands, or the number of rows.
 unfoldable pub row_of : List ℕ → ℕ → ℕ
@@ -35,20 +33,6 @@ judge T seen (more q t n rest) =
 -- The places of a header's tags by a table.
 unfoldable pub places_in : TagTable → List ℕ → Answer (List ℕ)
 places_in T h = judge T (replicate (length T.types) 0) (tags_at h first_tag)
-
--- The places beside a refusal: blank, so that none comes from an earlier header.
-abbrev pub blank : List ℕ
-blank = replicate 6 0
-
--- The places that an answer tells: blank where it refuses.
-abbrev pub places_of : Answer (List ℕ) → List ℕ
-places_of (gives l) = l
-places_of (refused n p) = blank
-
--- What a search for tags promises: its outcome and its places, both decided by the answer that the rules give.
-pub record Finds (answer : Answer (List ℕ)) (r : Places) : Type 0 where
-  pub outcome : header_answer r.outcome r.places ≡ answer
-  pub places : r.places ≡ places_of answer
 
 -- A value of each row's length fits, behind type and length, at each row's place of a header of n bytes.
 pub record TagsFit (T : TagTable) (places : List ℕ) (n : ℕ) : Type 0 where

@@ -1,12 +1,12 @@
 // Where the tags of a rustBoot header stand, judged by a table of types and lengths.
 #![tactic(auto)]
 
-ghost use Rattle.std.specs.Prelude.{◌≡◌, ◌≤◌};
+ghost use Rattle.std.specs.Prelude.{◌≡◌, ◌≤◌, ◌==◌, position};
 ghost use Rattle.header_places.specs.Table.{table_of};
-ghost use Rattle.header_places.specs.Judging.{row_of, places_in, blank, Finds};
+ghost use Rattle.header_places.specs.Judging.{places_in};
+ghost use Rattle.numbers.specs.GivenBack.{header_answer};
 
-use header_tags::Tag;
-use numbers::HeaderOutcome;
+use numbers::HeaderRefusal;
 
 // How many rows the table of tags has.
 pub const ROWS: usize = 6;
@@ -24,88 +24,46 @@ impl TagTable {
     pub const CRITICAL: usize = 0x8000;
 }
 
-// The places of the table's tags, 0 where a tag was not seen, and the outcome. The places of a refusal are blank: all 0.
-#[derive(Clone, Copy)]
-pub struct Places {
-    pub outcome: HeaderOutcome,
-    pub places: [usize; ROWS],
-}
-
-// The first index at which a number stands, or the length.
-pub fn row_of(row: &[usize], x: usize) -> usize
-    ensures { result ≡ row_of row.now x }
+// The first index at which a number stands.
+pub fn row_of(row: &[usize], x: usize) -> Option<usize>
+    ensures { result ≡ position (λ y. y == x) row.now }
 {
-    let mut i = 0;
-    while i < row.len() {
-        if row[i] == x {
-            return i;
-        }
-        i += 1;
-    }
-    i
+    row.iter().position(|y| *y == x)
 }
 
-// An outcome beside blank places.
-pub fn refuse(o: HeaderOutcome) -> Places
-    ensures { (result.outcome ≡ o) × (result.places ≡ blank) }
-{
-    Places {
-        outcome: o,
-        places: [0usize; ROWS],
-    }
-}
-
-// The places of a header's tags by a table.
-pub fn find_places(h: &[u8], table: TagTable) -> Places
+// The places of a header's tags by a table, 0 where a tag was not seen.
+pub fn find_places(h: &[u8], table: TagTable) -> Result<[usize; ROWS], HeaderRefusal>
     requires { table.required ≤ 6 }
-    ensures { Finds (places_in (table_of table) h.now) result }
+    ensures { header_answer result ≡ places_in (table_of table) h.now }
 {
-    let types = table.types;
-    let lengths = table.lengths;
-    let required = table.required;
+    let TagTable {
+        types,
+        lengths,
+        required,
+    } = table;
     let mut places = [0usize; ROWS];
     let mut at = header_tags::FIRST_TAG;
-    loop {
-        let t = header_tags::read_tag(h, at);
-        match t {
-            Tag::Found {
-                place,
-                kind,
-                length,
-            } => {
-                let row = row_of(&types, kind);
-                if row < ROWS {
-                    if length != lengths[row] {
-                        return refuse(HeaderOutcome::WrongLength(place));
-                    }
-                    if places[row] != 0 {
-                        return refuse(HeaderOutcome::Repeated(place));
-                    }
-                    places[row] = place;
-                } else if TagTable::CRITICAL <= kind {
-                    return refuse(HeaderOutcome::TagNotUnderstood(place));
+    while let Some(tag) = header_tags::read_tag(h, at)? {
+        match row_of(&types, tag.kind) {
+            Some(row) => {
+                if tag.length != lengths[row] {
+                    return Err(HeaderRefusal::WrongLength(tag.place));
                 }
-                at = place + 4 + length;
-            }
-            Tag::End => {
-                let first = row_of(&places[..required], 0);
-                if first < required {
-                    return refuse(HeaderOutcome::Missing(types[first]));
+                if places[row] != 0 {
+                    return Err(HeaderRefusal::Repeated(tag.place));
                 }
-                return Places {
-                    outcome: HeaderOutcome::Accepted,
-                    places,
-                };
+                places[row] = tag.place;
             }
-            Tag::TooShort => {
-                return refuse(HeaderOutcome::TooShort);
-            }
-            Tag::DoesNotFit(p) => {
-                return refuse(HeaderOutcome::TagDoesNotFit(p));
-            }
-            Tag::NoEnd(p) => {
-                return refuse(HeaderOutcome::NoEnd(p));
+            None => {
+                if TagTable::CRITICAL <= tag.kind {
+                    return Err(HeaderRefusal::TagNotUnderstood(tag.place));
+                }
             }
         }
+        at = tag.place + 4 + tag.length;
+    }
+    match row_of(&places[..required], 0) {
+        Some(first) => Err(HeaderRefusal::Missing(types[first])),
+        None => Ok(places),
     }
 }

@@ -8,21 +8,19 @@ use lib.Seq.{length-take-le}
 use lib.Dec.{ltb, eqb}
 use native.Mathlib.Omega.{arith}
 use borrow.Author.Tests.{lt-ltb, le-ltb, eq-eqb, ne_eqb, ltb-false, eqb-true, eqb-false}
+use Rattle.std.specs.Prelude.{Result, Ok, Err}
+use Rattle.std.specs.Result.{IsErrAnd}
 use Rattle.numbers.specs.Answer.{Answer, gives, refused, then}
+use Rattle.numbers.specs.declared.HeaderRefusal.{HeaderRefusal}
+use Rattle.numbers.specs.GivenBack.{refused_with, header_says, header_answer}
 use Rattle.header_tags.specs.Bytes.{number}
 use Rattle.header_tags.proofs.Laws.{refused_gives}
 use Rattle.header_tags.proofs.Padding.{gives_refused, number_same, place_same}
-use Rattle.numbers.specs.declared.HeaderOutcome.{HeaderOutcome}
-use Rattle.numbers.specs.declared.HeaderOutcome.TheVariants.{Accepted}
-use Rattle.header_places.specs.declared.Places.{Places}
 use Rattle.header_places.specs.Table.{document_table}
-use Rattle.numbers.specs.GivenBack.{header_answer}
-use Rattle.header_places.specs.Judging.{places_in, TagsFit, Finds}
+use Rattle.header_places.specs.Judging.{places_in, TagsFit}
 use Rattle.header_places.proofs.Fitting.{found_within}
-use Rattle.numbers.proofs.Refusals.{refusing}
 use Rattle.header_reader.specs.declared.Header.{Header}
-use Rattle.header_reader.specs.declared.HeaderAnswer.{HeaderAnswer}
-use Rattle.header_reader.specs.Reading.{magic, bytes_at, tag_places, values_at, read_header, blank, values_of, Reads}
+use Rattle.header_reader.specs.Reading.{magic, bytes_at, tag_places, values_at, read_header}
 
 -- ---- where the tags stand
 
@@ -106,23 +104,8 @@ module _ (s : List ℕ) where
       go (gives l) x e = let i : values_at (take 256 s) l ≡ v = cc in record { places = l; found = x; is = sym i }
       go (refused m q) x e = refused_gives e
 
-module _ (s : List ℕ) (r : Places) (finds : Finds (tag_places s) r) where
-  module _ (is : r.outcome ≡ Accepted) where
-    pub given : tag_places s ≡ gives r.places
-    given = sym finds.outcome ∙ ap (λ (o : HeaderOutcome). header_answer o r.places) is
-
-    -- the tags are in order
-    pub taken_in : {v : Header} → v ≡ values_at (take 256 s) r.places → Reads s (record { outcome = Accepted; header = v })
-    taken_in {v} e =
-        let f : read_header s ≡ gives v = by_places s given ∙ ap gives (sym e) in
-        record { outcome = sym f; values = sym (ap values_of f) }
-
-  -- the header is refused
-  pub turned_on : {a : HeaderAnswer} → (r.outcome ≡ Accepted → ⊥) → (a.outcome ≡ r.outcome) × (a.header ≡ blank) → Reads s a
-  turned_on {a} not w =
-      let h = refusing r.outcome not in
-      let f = by_places s (sym finds.outcome ∙ h.is r.places) in
-      record {
-        outcome = ap (λ (o : HeaderOutcome). header_answer o a.header) w.0 ∙ h.is a.header ∙ sym f;
-        values = w.1 ∙ sym (ap values_of f);
-      }
+-- a refusal of the search is the reader's
+pub handed_on : (s : List ℕ) (r : Result Header HeaderRefusal) (w : HeaderRefusal) → IsErrAnd r (λ e. e ≡ w)
+    → refused_with {A = List ℕ} (header_says w) ≡ tag_places s → header_answer r ≡ read_header s
+handed_on s (Ok v) w e f = absurd e
+handed_on s (Err h) w e f = ap (λ (x : HeaderRefusal). refused_with {A = Header} (header_says x)) e ∙ sym (by_places s (sym f))

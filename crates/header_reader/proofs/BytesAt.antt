@@ -1,14 +1,14 @@
 -- Parts of a list of bytes, and numbers in them. Assumes nothing.
-use mathlib.Core.Path.{◌≡◌, refl, ap, ◌∙◌}
-use Prim.Native.Nat.{ℕ, suc, ◌+◌, ◌-◌, ◌*◌, ◌^◌, ◌≤◌, ◌<◌}
-use mathlib.Core.List.{List, [], ◌∷◌, ◌++◌, append-nil}
+use mathlib.Core.Path.{◌≡◌, refl}
+use Prim.Native.Nat.{ℕ, suc, ◌+◌, ◌*◌, ◌^◌, ◌≤◌, ◌<◌}
+use mathlib.Core.List.{List, [], ◌∷◌}
 use native.Mathlib.Omega.{arith}
 use native.Mathlib.Nat.{pow-suc}
 use native.Mathlib.Decide.{dec_lt}
 use lib.Dec.{lit<}
 use native.Mathlib.Numerals.{add-one}
-use lib.ListN.{length, get_or, take, drop, length-take, length-drop, replicate, length-replicate, drop_of_length-le, get_or-eq_default}
-use lib.Seq.{take-length, drop-cons, length-take-le, take-add, drop-drop, get_or-take, get_or-drop}
+use lib.ListN.{length, get_or, drop, length-take, length-drop, get_or-eq_default}
+use lib.Seq.{drop-cons, length-take-le, get_or-take, get_or-drop}
 use Rattle.header_tags.specs.Bytes.{AllBytes, number}
 use Rattle.header_reader.specs.Reading.{bytes_at}
 
@@ -36,25 +36,6 @@ module _ (h : List ℕ) where
 
   pub num_4 : {r : ℕ} (p : ℕ) → p + 4 ≤ length h → r ≡ get_or h p 0 + 256 * (get_or h (p + 1) 0 + 256 * (get_or h (p + 2) 0 + 256 * get_or h (p + 3) 0)) → r ≡ number (bytes_at h p 4)
   num_4 p fits e = rw (part_4 p fits) (omega arith)
-
-  part_8 : (p : ℕ) → bytes_at h p 8 ≡ bytes_at h p 4 ++ bytes_at h (p + 4) 4
-  part_8 p = take-add 4 4 (drop p h) ∙ ap (λ (l : List ℕ). bytes_at h p 4 ++ take 4 l) (drop-drop 4 p h)
-
-  pub num_8 : {a b : ℕ} (p : ℕ) → p + 8 ≤ length h → a ≡ number (bytes_at h p 4) → b ≡ number (bytes_at h (p + 4) 4) → a + 4294967296 * b ≡ number (bytes_at h p 8)
-  num_8 p fits ea eb =
-      let four : bytes_at h p 4 ≡ get_or h p 0 ∷ get_or h (p + 1) 0 ∷ get_or h (p + 2) 0 ∷ get_or h (p + 3) 0 ∷ [] = part_4 p (omega arith) in
-      let fa = ea ∙ ap number four in
-      rw (part_8 p, four) (omega arith)
-
-  -- a part, copied over an array of zeros of its length
-  pub copied : (p n : ℕ) {y : List ℕ} → p + n ≤ length h
-      → y ≡ take (length (take (p + n - p) (drop p h))) (take (p + n - p) (drop p h)) ++ drop (length (take (p + n - p) (drop p h))) (replicate n 0)
-      → y ≡ bytes_at h p n
-  copied p n {y} fits e =
-      let k : p + n - p ≡ n = omega arith in
-      let f : y ≡ take (length (bytes_at h p n)) (bytes_at h p n) ++ drop (length (bytes_at h p n)) (replicate n 0) = rw k at e in
-      let none : ◌≡◌ {A = List ℕ} (drop (length (bytes_at h p n)) (replicate n 0)) [] = drop_of_length-le (replicate n 0) {i = length (bytes_at h p n)} (omega (arith, length_part p n fits, length-replicate {A = ℕ} n 0)) in
-      f ∙ ap (λ (l : List ℕ). take (length (bytes_at h p n)) (bytes_at h p n) ++ l) none ∙ append-nil _ ∙ take-length (bytes_at h p n)
 
 -- n bytes are a number that fits n bytes
 number_below : (l : List ℕ) → AllBytes l → number l < 256 ^ length l

@@ -1,12 +1,10 @@
 -- Document 01, "The header": what the reader makes of bytes.
-use Rattle.std.specs.Prelude.{◌≡◌, ℕ, ◌+◌, List, [], ◌∷◌, false, cond, not, length, get_or, take, drop, replicate, ltb, eqb}
+use Rattle.std.specs.Prelude.{ℕ, ◌+◌, List, [], ◌∷◌, false, cond, not, length, get_or, take, drop, replicate, ltb, eqb}
 use Rattle.numbers.specs.Answer.{Answer, gives, refused, then}
 use Rattle.header_tags.specs.Bytes.{number}
 use Rattle.header_places.specs.Table.{document_table}
-use Rattle.numbers.specs.GivenBack.{header_answer}
 use Rattle.header_places.specs.Judging.{places_in}
 use Rattle.header_reader.specs.declared.Header.{Header}
-use Rattle.header_reader.specs.declared.HeaderAnswer.{HeaderAnswer}
 
 -- The bytes 0 to 3 of a header. Source 000 names no value; this one is document 01's.
 abbrev pub magic : List ℕ
@@ -67,8 +65,3 @@ blank =
 abbrev pub values_of : Answer Header → Header
 values_of (gives v) = v
 values_of (refused n p) = blank
-
--- What the reader promises of the bytes s: its outcome and its values, both decided by s alone.
-pub record Reads (s : List ℕ) (r : HeaderAnswer) : Type 0 where
-  pub outcome : header_answer r.outcome r.header ≡ read_header s
-  pub values : r.header ≡ values_of (read_header s)

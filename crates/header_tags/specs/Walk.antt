@@ -1,8 +1,11 @@
 -- Document 01, "The header": the walk over the tags of a header. h is the header's bytes, all of them, so that its length is the header's.
-use Rattle.std.specs.Prelude.{ℕ, zero, suc, ◌+◌, ◌*◌, ◌-◌, List, true, false, cond, length, get_or, take, ltb, eqb}
+use Rattle.std.specs.Prelude.{ℕ, zero, suc, ◌+◌, ◌*◌, ◌-◌, List, true, false, cond, length, get_or, take, ltb, eqb, Option, Some, None, Result, Ok, Err}
 use Rattle.numbers.specs.Answer.{Answer, gives, refused}
+use Rattle.numbers.specs.declared.Refused.{Refused}
+use Rattle.numbers.specs.GivenBack.{refused_at, refused_with}
 use Rattle.header_tags.specs.declared.Tag.{Tag}
-use Rattle.header_tags.specs.declared.Tag.TheVariants.{Found, End, TooShort, DoesNotFit, NoEnd}
+use Rattle.header_tags.specs.declared.WalkRefusal.{WalkRefusal}
+use Rattle.header_tags.specs.declared.WalkRefusal.TheVariants.{TooShort, DoesNotFit, NoEnd}
 
 -- Where the tags begin: behind the magic and the firmware's size, four bytes each.
 abbrev pub first_tag : ℕ
@@ -38,13 +41,17 @@ item_from h (suc n) p = elim (eqb (get_or h p 0) 0xFF) [ true ↦ item_from h n 
 abbrev pub next_item : List ℕ → ℕ → Answer Item
 next_item h p = item_from h (length h - p) p
 
--- The paper's number and values for each case of the code's answer.
-abbrev pub item_of : Tag → Answer Item
-item_of (Found p t n) = gives (tag p t n)
-item_of End = gives end
-item_of TooShort = refused 16 0
-item_of (DoesNotFit p) = refused 4 p
-item_of (NoEnd p) = refused 7 p
+-- The paper's number and place for each refusal of the walk.
+abbrev pub walk_says : WalkRefusal → Refused
+walk_says TooShort = refused_at 16 0
+walk_says (DoesNotFit p) = refused_at 4 p
+walk_says (NoEnd p) = refused_at 7 p
+
+-- What the code's answer says: a tag, where there is none the end, or a refusal's number and place.
+abbrev pub item_of : Result (Option Tag) WalkRefusal → Answer Item
+item_of (Ok (Some t)) = gives (tag t.place t.kind t.length)
+item_of (Ok None) = gives end
+item_of (Err w) = refused_with (walk_says w)
 
 -- Where the walk goes on: behind a tag. At the end and after a refusal it stays, so that the same answer comes again.
 abbrev pub place_behind : Answer Item → ℕ → ℕ

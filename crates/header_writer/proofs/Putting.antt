@@ -1,13 +1,16 @@
 -- A header written part by part. Assumes nothing.
-use mathlib.Core.Path.{◌≡◌, sym, ap, ◌∙◌}
-use Prim.Native.Nat.{ℕ, ◌+◌, ◌-◌, ◌≤◌, ◌<◌}
+use mathlib.Core.Path.{◌≡◌, refl, sym, ap, ◌∙◌}
+use Prim.Native.Nat.{ℕ, zero, suc, ◌+◌, ◌-◌, ◌/◌, ◌%◌, ◌^◌, ◌≤◌, ◌<◌}
 use mathlib.Core.List.{List, [], ◌∷◌, ◌++◌, append_assoc, append-nil}
 use native.Mathlib.Omega.{arith}
-use lib.ListN.{length, take, drop, replicate, length-append, length-replicate, replicate-append-replicate}
-use lib.Seq.{take_at}
+use Rattle.std.proofs.Math.Nat.{pow-suc, div-div-eq-div-mul}
+use Rattle.std.specs.Int.{w16, w32, w64, bytes_low_first, to_le_bytes}
+use lib.ListN.{length, take, drop, replicate, length-append, length-drop, length-replicate}
+use lib.Seq.{length-take-le}
+use borrow.Rule.Slice.PartMut.{put_mid}
 use borrow.Author.Tests.{lt-ltb, le-ltb, eq-eqb, ne_eqb}
 use Rattle.output.specs.Puts.{Puts}
-use Rattle.output.proofs.Laws.{puts_then, puts_none, puts_as, puts_whole}
+use Rattle.output.proofs.Laws.{puts_then, puts_none, puts_as, puts_length, puts_copied, puts_whole}
 use Rattle.numbers.specs.Answer.{gives, refused}
 use mathlib.Core.Bool.{Bool, true, false}
 use Rattle.header_tags.specs.Bytes.{little_endian, tag_bytes, field_bytes}
@@ -15,37 +18,44 @@ use Rattle.header_tags.proofs.Found.{field_append}
 use Rattle.header_reader.specs.declared.Header.{Header}
 use Rattle.header_writer.specs.Writing.{front, required_fields, hint_fields, ending, header_bytes, write, write_header}
 
+-- a number's bytes by the library, from the byte i + 1 on and whole
+low_from : (k i n : ℕ) → bytes_low_first (suc i) k n ≡ little_endian k (n / 256 ^ suc i)
+low_from zero i n = refl
+low_from (suc k) i n =
+    let next : n / 256 ^ suc (suc i) ≡ n / 256 ^ suc i / 256 = ap (λ (m : ℕ). n / m) (pow-suc 256 (suc i)) ∙ sym (div-div-eq-div-mul n (256 ^ suc i) 256) in
+    ap (λ (l : List ℕ). n / 256 ^ suc i % 256 ∷ l) (low_from k (suc i) n ∙ ap (little_endian k) next)
+
+low_first : (k n : ℕ) → bytes_low_first 0 k n ≡ little_endian k n
+low_first zero n = refl
+low_first (suc k) n = ap (λ (l : List ℕ). n % 256 ∷ l) (low_from k 0 n)
+
 -- a tag, in three parts
 pub puts_tag : {d d₁ d₂ d₃ x y b : List ℕ} {p p₁ p₂ p₃ : ℕ} (t : ℕ) → x ≡ little_endian 2 t → y ≡ little_endian 2 (length b)
     → Puts d d₁ p x p₁ → Puts d₁ d₂ p₁ y p₂ → Puts d₂ d₃ p₂ b p₃ → Puts d d₃ p (tag_bytes t b) p₃
 puts_tag {b = b} t ex ey a c e =
     puts_as (puts_then (puts_then (puts_as a ex) (puts_as c ey)) e) (append_assoc (little_endian 2 t) (little_endian 2 (length b)) b)
 
-take_replicate : (n m x : ℕ) → n ≤ m → take n (replicate m x) ≡ replicate n x
-take_replicate n m x le =
-    let e : m ≡ n + (m - n) = omega arith in
-    ap (λ (k : ℕ). take n (replicate k x)) e ∙ ap (take n) (sym (replicate-append-replicate n (m - n) x))
-    ∙ take_at (replicate n x) (replicate (m - n) x) n (length-replicate n x)
-
--- the end, and the padding behind it
-pub puts_end : {d d₁ d₂ : List ℕ} {p p₁ p₂ : ℕ} → p + 2 ≤ 256 → Puts d d₁ p (0 ∷ 0 ∷ []) p₁
-    → Puts d₁ d₂ p₁ (take (256 - p₁) (replicate 256 255)) p₂ → Puts d d₂ p (ending p) p₂
-puts_end {p = p} {p₁ = p₁} le x y =
-    let e : 256 - p₁ ≡ 254 - p = omega (arith, x.behind) in
-    puts_then x (puts_as y (take_replicate (256 - p₁) 256 255 (omega arith) ∙ ap (λ (k : ℕ). replicate k 255) e))
+-- the end, and the padding y behind it, over what is left of the 256 bytes
+pub puts_end : {d d₁ y : List ℕ} {p p₁ : ℕ} → p + 2 ≤ 256 → 256 ≤ length d → Puts d d₁ p (0 ∷ 0 ∷ []) p₁
+    → y ≡ replicate (length (take (256 - p₁) (drop p₁ d₁))) 0xFF → Puts d (put_mid p₁ (256 - p₁) d₁ y) p (ending p) 256
+puts_end {d} {d₁} {y} {p} {p₁} le room x is =
+    let long = puts_length x in
+    let left : length (take (256 - p₁) (drop p₁ d₁)) ≡ 254 - p = length-take-le (256 - p₁) (drop p₁ d₁) (omega (arith, x.behind, length-drop p₁ d₁)) ∙ omega (arith, x.behind) in
+    let n = length-replicate {A = ℕ} (254 - p) 0xFF in
+    puts_then x (puts_copied d₁ (replicate (254 - p) 0xFF) y p₁ (256 - p₁) 256 (omega (arith, x.behind)) (omega (arith, x.behind)) (omega (arith, x.behind)) (is ∙ ap (λ (k : ℕ). replicate k 0xFF) left))
 
 -- the five required tags, one behind another
 pub puts_required : {d d₁ d₂ d₃ d₄ d₅ a t u w₁ w₂ w₃ w₄ w₅ : List ℕ} {p p₁ p₂ p₃ p₄ p₅ : ℕ} (v : Header)
-    → a ≡ little_endian 4 v.version → t ≡ little_endian 8 v.timestamp → u ≡ little_endian 2 v.auth_type
+    → a ≡ to_le_bytes w32 v.version → t ≡ to_le_bytes w64 v.timestamp → u ≡ to_le_bytes w16 v.auth_type
     → Puts d d₁ p w₁ p₁ → Puts d₁ d₂ p₁ w₂ p₂ → Puts d₂ d₃ p₂ w₃ p₃ → Puts d₃ d₄ p₃ w₄ p₄ → Puts d₄ d₅ p₄ w₅ p₅
     → w₁ ≡ tag_bytes 0x0001 a → w₂ ≡ tag_bytes 0x0002 t → w₃ ≡ tag_bytes 0x0003 v.digest → w₄ ≡ tag_bytes 0x0020 v.signature
     → w₅ ≡ tag_bytes 0x0030 u → Puts d d₅ p (field_bytes (required_fields v)) p₅
 unfolding field_bytes
 puts_required v ea et eu x₁ x₂ x₃ x₄ x₅ e₁ e₂ e₃ e₄ e₅ =
     puts_as
-    (puts_then (puts_as x₁ (e₁ ∙ ap (tag_bytes 0x0001) ea))
-    (puts_then (puts_as x₂ (e₂ ∙ ap (tag_bytes 0x0002) et))
-    (puts_then (puts_as x₃ e₃) (puts_then (puts_as x₄ e₄) (puts_as x₅ (e₅ ∙ ap (tag_bytes 0x0030) eu))))))
+    (puts_then (puts_as x₁ (e₁ ∙ ap (tag_bytes 0x0001) (ea ∙ low_first 4 v.version)))
+    (puts_then (puts_as x₂ (e₂ ∙ ap (tag_bytes 0x0002) (et ∙ low_first 8 v.timestamp)))
+    (puts_then (puts_as x₃ e₃) (puts_then (puts_as x₄ e₄) (puts_as x₅ (e₅ ∙ ap (tag_bytes 0x0030) (eu ∙ low_first 2 v.auth_type)))))))
     (ap (λ (l : List ℕ). tag_bytes 0x0001 (little_endian 4 v.version) ++ (tag_bytes 0x0002 (little_endian 8 v.timestamp) ++ (tag_bytes 0x0003 v.digest ++ (tag_bytes 0x0020 v.signature ++ l))))
     (sym (append-nil (tag_bytes 0x0030 (little_endian 2 v.auth_type)))))
 

@@ -2,7 +2,6 @@
 use mathlib.Core.Path.{◌≡◌, sym, ◌∙◌}
 use Prim.Native.Nat.{ℕ}
 use mathlib.Core.List.{List, [], ◌∷◌, append_assoc}
-use mathlib.Core.Bool.{Bool}
 use Rattle.output.specs.Puts.{Puts}
 use Rattle.output.proofs.Laws.{puts_then, puts_as}
 use Rattle.io.specs.Digits.{last_digits, IsDigitCount}
@@ -27,7 +26,3 @@ pub puts_refusal : {d e f : List ℕ} {p q r : ℕ} (n k : ℕ) → Puts d e p (
     → Puts d f p (refusal n k) r
 unfolding refusal
 puts_refusal n k x y = puts_as (puts_then x y) (sym (append_assoc (named refused_word n) (named at_word k) (10 ∷ [])))
-
--- the hint's line, by whether there is one
-pub puts_hint : {d e : List ℕ} {p q : ℕ} {h : Bool} (b : Bool) → h ≡ b → Puts d e p (line (hint b)) q → Puts d e p (line (hint h)) q
-puts_hint b same x = rw same x

@@ -14,7 +14,7 @@ fn put_named(out: &mut [u8], at: usize, words: &[u8], n: u64) -> usize
     ensures puts { Puts out.old out.new at (named words.now n) result }
     ensures upper_bound { result ≤ at + length words.now + 20 }
 {
-    let mut digits = [0u8; 20];
+    let mut digits = [0; 20];
     let k = io::decimal(n, &mut digits);
     let at = put(out, at, words);
     put(out, at, &digits[..k])
@@ -37,9 +37,10 @@ fn put_hint(out: &mut [u8], at: usize, present: bool) -> usize
     ensures upper_bound { result ≤ at + 9 }
 {
     if present {
-        return put(out, at, b"hint yes\n");
+        put(out, at, b"hint yes\n")
+    } else {
+        put(out, at, b"hint no\n")
     }
-    put(out, at, b"hint no\n")
 }
 
 // Writes a header's fields at the start.

@@ -1,38 +1,33 @@
 -- Document 01, "Numbers given back": the number of 01's table, with its place, for each case of the code's answers. This is the one room
 -- for them: a new number is a new line here.
-use Rattle.std.specs.Prelude.{ℕ}
+use Rattle.std.specs.Prelude.{ℕ, Option, Some, None, Result, Ok, Err}
 use Rattle.numbers.specs.Answer.{Answer, gives, refused, Refusal, numbered, inside, Reason, no_reason, because}
-use Rattle.numbers.specs.declared.HeaderOutcome.{HeaderOutcome}
-use Rattle.numbers.specs.declared.HeaderOutcome.TheVariants.{Accepted, TooShort, WrongMagic, WrongSize, TagDoesNotFit, TagNotUnderstood, WrongLength, Repeated, NoEnd, Missing}
-use Rattle.numbers.specs.declared.WriteOutcome.{WriteOutcome}
-use Rattle.numbers.specs.declared.WriteOutcome.TheVariants.{Written, TooShort as OutputTooShort, WrongSize as OutputSize}
-use Rattle.numbers.specs.declared.SealedOutcome.{SealedOutcome}
-use Rattle.numbers.specs.declared.SealedOutcome.TheVariants.{Sealed, BadHeader as NotRead, NotSealed}
-use Rattle.numbers.specs.declared.SealedWriteOutcome.{SealedWriteOutcome}
-use Rattle.numbers.specs.declared.SealedWriteOutcome.TheVariants.{Written as SealedWritten, TooShort as SealedTooShort, WrongSize as SealedSize, NoHint}
-use Rattle.numbers.specs.declared.ImageOutcome.{ImageOutcome}
-use Rattle.numbers.specs.declared.ImageOutcome.TheVariants.{Good, OutsideRules, BadHeader, WrongDigest}
+use Rattle.numbers.specs.declared.HeaderRefusal.{HeaderRefusal}
+use Rattle.numbers.specs.declared.HeaderRefusal.TheVariants.{TooShort, WrongMagic, WrongSize, TagDoesNotFit, TagNotUnderstood, WrongLength, Repeated, NoEnd, Missing}
+use Rattle.numbers.specs.declared.WriteRefusal.{WriteRefusal}
+use Rattle.numbers.specs.declared.WriteRefusal.TheVariants.{TooShort as OutputTooShort, WrongSize as OutputSize}
+use Rattle.numbers.specs.declared.SealedRefusal.{SealedRefusal}
+use Rattle.numbers.specs.declared.SealedRefusal.TheVariants.{BadHeader as NotRead, NotSealed}
+use Rattle.numbers.specs.declared.SealedWriteRefusal.{SealedWriteRefusal}
+use Rattle.numbers.specs.declared.SealedWriteRefusal.TheVariants.{NotWritten, NoHint}
+use Rattle.numbers.specs.declared.ImageRefusal.{ImageRefusal}
+use Rattle.numbers.specs.declared.ImageRefusal.TheVariants.{OutsideRules, BadHeader, WrongDigest}
 use Rattle.numbers.specs.declared.PowerUpRefusal.{PowerUpRefusal}
 use Rattle.numbers.specs.declared.PowerUpRefusal.TheVariants.{OutsideRules as FlashOutside, StatusNotAllowed, FlagsMalformed, BadBoot, NoFallback}
 use Rattle.numbers.specs.declared.TurnDownReason.{TurnDownReason}
-use Rattle.numbers.specs.declared.TurnDownReason.TheVariants.{None, BadUpdate, NotNewer}
+use Rattle.numbers.specs.declared.TurnDownReason.TheVariants.{BadUpdate, NotNewer}
 use Rattle.numbers.specs.declared.CommandRefusal.{CommandRefusal}
 use Rattle.numbers.specs.declared.CommandRefusal.TheVariants.{OutsideRules as CommandOutside, StatusNotAllowed as CommandStatus, FlagsMalformed as CommandFlags, WrongTime}
 use Rattle.numbers.specs.declared.MendRefusal.{MendRefusal}
 use Rattle.numbers.specs.declared.MendRefusal.TheVariants.{OutsideRules as MendOutside, StatusNotAllowed as MendStatus, WrongTime as MendWrongTime, NoMarkFits}
 use Rattle.numbers.specs.declared.RowRefusal.{RowRefusal}
 use Rattle.numbers.specs.declared.RowRefusal.TheVariants.{TotalWrong, CountTooHigh}
-use Rattle.numbers.specs.declared.SheetOutcome.{SheetOutcome}
-use Rattle.numbers.specs.declared.SheetOutcome.TheVariants.{Accepted as SheetAccepted, NotUnderstood, UnknownName, BadValue, RepeatedName, MissingName}
+use Rattle.numbers.specs.declared.SheetRefusal.{SheetRefusal}
+use Rattle.numbers.specs.declared.SheetRefusal.TheVariants.{NotUnderstood, UnknownName, BadValue, RepeatedName, MissingName}
 use Rattle.numbers.specs.declared.Refused.{Refused}
 use Rattle.numbers.specs.declared.RefusedInside.{RefusedInside}
 
--- ---- what is told beside values
-
--- An outcome that stands beside values: where nothing is refused the call gives them.
-abbrev pub beside : {A : Type 0} → Answer (Unit {0}) → A → Answer A
-beside (gives t) a = gives a
-beside (refused n p) a = refused n p
+-- ---- an answer, and its number and place
 
 -- A number and a place as the code hands them out, both 0 where nothing is refused: 0 is no number of 01.
 abbrev pub refused_at : ℕ → ℕ → Refused
@@ -43,86 +38,86 @@ abbrev pub refusal_of : {A : Type 0} → Answer A → Refused
 refusal_of (gives a) = refused_at 0 0
 refusal_of (refused n p) = refused_at n p
 
+-- A refusal by its number and place.
+abbrev pub refused_with : {A : Type 0} → Refused → Answer A
+refused_with r = refused r.number r.place
+
+-- What the code's answer says: what it gives, or the number and place of its refusal.
+abbrev pub answer_by : {A E : Type 0} → (E → Refused) → Result A E → Answer A
+answer_by says (Ok a) = gives a
+answer_by says (Err e) = refused_with (says e)
+
 -- ---- the reader: 2 to 8, 16 and 18
 
 -- The place of 4, 5, 6 and 18 is the tag's first byte, that of 7 the header's length; at 8 the missing type stands for the place.
-abbrev pub header_says : HeaderOutcome → Answer (Unit {0})
-header_says Accepted = gives tt
-header_says TooShort = refused 16 0
-header_says WrongMagic = refused 2 0
-header_says WrongSize = refused 3 4
-header_says (TagDoesNotFit p) = refused 4 p
-header_says (TagNotUnderstood p) = refused 18 p
-header_says (WrongLength p) = refused 5 p
-header_says (Repeated p) = refused 6 p
-header_says (NoEnd p) = refused 7 p
-header_says (Missing t) = refused 8 t
+abbrev pub header_says : HeaderRefusal → Refused
+header_says TooShort = refused_at 16 0
+header_says WrongMagic = refused_at 2 0
+header_says WrongSize = refused_at 3 4
+header_says (TagDoesNotFit p) = refused_at 4 p
+header_says (TagNotUnderstood p) = refused_at 18 p
+header_says (WrongLength p) = refused_at 5 p
+header_says (Repeated p) = refused_at 6 p
+header_says (NoEnd p) = refused_at 7 p
+header_says (Missing t) = refused_at 8 t
 
--- The reader's outcome beside the values that it hands out.
-abbrev pub header_answer : {A : Type 0} → HeaderOutcome → A → Answer A
-header_answer o a = beside (header_says o) a
-
--- A bad header has the reader's own refusal. An accepted header is not bad: the 0 that stands for it is no number of 01.
-abbrev pub bad_header : {A : Type 0} → Answer (Unit {0}) → Answer A
-bad_header (gives t) = refused 0 0
-bad_header (refused n p) = refused n p
+abbrev pub header_answer : {A : Type 0} → Result A HeaderRefusal → Answer A
+header_answer = answer_by header_says
 
 -- ---- the writer: 3 and 16
 
 -- A size of 0 is refused where the size stands, at 4.
-abbrev pub writer_answer : WriteOutcome → Answer (Unit {0})
-writer_answer Written = gives tt
-writer_answer OutputTooShort = refused 16 0
-writer_answer OutputSize = refused 3 4
+abbrev pub writer_says : WriteRefusal → Refused
+writer_says OutputTooShort = refused_at 16 0
+writer_says OutputSize = refused_at 3 4
+
+abbrev pub writer_answer : {A : Type 0} → Result A WriteRefusal → Answer A
+writer_answer = answer_by writer_says
 
 -- ---- the sealed profile: the reader's and the writer's, and 21
 
 -- 21 is document 02's: not sealed, at the first byte that differs from the written form of the values, or at 138, where the hint's tag
 -- would stand, if the hint is missing and nothing before differs. The sealed writer without a hint gives it there.
-abbrev pub sealed_says : SealedOutcome → Answer (Unit {0})
-sealed_says Sealed = gives tt
-sealed_says (NotRead o) = bad_header (header_says o)
-sealed_says (NotSealed p) = refused 21 p
+abbrev pub sealed_says : SealedRefusal → Refused
+sealed_says (NotRead h) = header_says h
+sealed_says (NotSealed p) = refused_at 21 p
 
-abbrev pub sealed_writer_answer : SealedWriteOutcome → Answer (Unit {0})
-sealed_writer_answer SealedWritten = gives tt
-sealed_writer_answer SealedTooShort = refused 16 0
-sealed_writer_answer SealedSize = refused 3 4
-sealed_writer_answer NoHint = refused 21 138
+abbrev pub sealed_answer : {A : Type 0} → Result A SealedRefusal → Answer A
+sealed_answer = answer_by sealed_says
+
+abbrev pub sealed_writer_says : SealedWriteRefusal → Refused
+sealed_writer_says (NotWritten w) = writer_says w
+sealed_writer_says NoHint = refused_at 21 138
+
+abbrev pub sealed_writer_answer : {A : Type 0} → Result A SealedWriteRefusal → Answer A
+sealed_writer_answer = answer_by sealed_writer_says
 
 -- ---- the image check: 1, the reader's, and 9
 
--- Another digest is refused behind the header, at 256.
-abbrev pub image_says : ImageOutcome → Answer (Unit {0})
-image_says Good = gives tt
-image_says OutsideRules = refused 1 0
-image_says (BadHeader o) = bad_header (header_says o)
-image_says WrongDigest = refused 9 256
+-- A bad header has the reader's own refusal; another digest is refused behind the header, at 256.
+abbrev pub image_says : ImageRefusal → Refused
+image_says OutsideRules = refused_at 1 0
+image_says (BadHeader h) = header_says h
+image_says WrongDigest = refused_at 9 256
 
--- The check's outcome beside the values that it hands out.
-abbrev pub image_answer : {A : Type 0} → ImageOutcome → A → Answer A
-image_answer o a = beside (image_says o) a
+abbrev pub image_answer : {A : Type 0} → Result A ImageRefusal → Answer A
+image_answer = answer_by image_says
 
 -- ---- power-up: 1, 10 to 13, and 15 as a reason
-
--- A bad image's own number and place, which 12, 13 and a turning-down reason carry. For a good image, which none of them is about, 0
--- stands there.
-abbrev pub own_of : ImageOutcome → Refused
-own_of o = refusal_of (image_says o)
 
 -- A refused power-up: 12 and 13 carry number and place of the bad image.
 abbrev pub power_up_says : PowerUpRefusal → Refusal
 power_up_says FlashOutside = numbered 1 0
 power_up_says StatusNotAllowed = numbered 10 0
 power_up_says FlagsMalformed = numbered 11 0
-power_up_says (BadBoot o) = inside 12 (own_of o).number (own_of o).place
-power_up_says (NoFallback o) = inside 13 (own_of o).number (own_of o).place
+power_up_says (BadBoot i) = inside 12 (image_says i).number (image_says i).place
+power_up_says (NoFallback i) = inside 13 (image_says i).number (image_says i).place
 
 -- "Turning down": its reason, UPDATE's own refusal or 15.
-abbrev pub reason_of : TurnDownReason → Reason
+abbrev pub reason_of : Option TurnDownReason → Reason
 reason_of None = no_reason
-reason_of (BadUpdate o) = because (own_of o).number (own_of o).place
-reason_of NotNewer = because 15 0
+reason_of (Some (BadUpdate i)) = because (image_says i).number (image_says i).place
+reason_of (Some NotNewer) = because 15 0
 
 -- The three numbers of a refusal as the code hands them out: its own, then number and place of a bad image, or 0 and its own place.
 abbrev pub three_numbers : Refusal → RefusedInside
@@ -167,14 +162,12 @@ row_number CountTooHigh = 20
 -- ---- a release sheet: 101 to 105, which are no numbers of 01
 
 -- The place of 101 to 104 is the line's number; at 105 the missing tag's type stands for it.
-abbrev pub sheet_says : SheetOutcome → Answer (Unit {0})
-sheet_says SheetAccepted = gives tt
-sheet_says (NotUnderstood n) = refused 101 n
-sheet_says (UnknownName n) = refused 102 n
-sheet_says (BadValue n) = refused 103 n
-sheet_says (RepeatedName n) = refused 104 n
-sheet_says (MissingName t) = refused 105 t
+abbrev pub sheet_says : SheetRefusal → Refused
+sheet_says (NotUnderstood n) = refused_at 101 n
+sheet_says (UnknownName n) = refused_at 102 n
+sheet_says (BadValue n) = refused_at 103 n
+sheet_says (RepeatedName n) = refused_at 104 n
+sheet_says (MissingName t) = refused_at 105 t
 
--- The outcome beside what is handed out.
-abbrev pub sheet_answer : {A : Type 0} → SheetOutcome → A → Answer A
-sheet_answer o a = beside (sheet_says o) a
+abbrev pub sheet_answer : {A : Type 0} → Result A SheetRefusal → Answer A
+sheet_answer = answer_by sheet_says

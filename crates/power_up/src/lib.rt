@@ -10,6 +10,7 @@ ghost use Rattle.exchange.specs.Order.{run};
 ghost use Rattle.exchange.specs.Decision.{decide_within};
 ghost use Rattle.exchange.specs.PowerUp.{if_boot_good, done_outcome, outcome_by, worked, carry_out};
 ghost use Rattle.exchange_front.specs.Carried.{next_at};
+ghost use Rattle.exchange_steps.specs.Lent.{bytes, SameFlash};
 ghost use Rattle.image.specs.Verdict.{check_of};
 ghost use Rattle.numbers.specs.GivenBack.{reason_of};
 ghost use Rattle.power_up_decision.specs.Inner.{plan_of};
@@ -18,6 +19,7 @@ ghost use Rattle.power_up.specs.Inner.{idle_answer};
 
 use exchange::{Job, Next};
 use exchange_front::Progress;
+use exchange_steps::FlashMut;
 use flash::{Geometry, GeometryAnswer};
 use image::ImageVerdict;
 use numbers::{PowerUpRefusal, TurnDownReason};
@@ -86,45 +88,38 @@ pub fn outcome_at(g: Geometry, job: Job, at: Progress, boot: &[u8], update: &[u8
     }
 }
 
-fn do_job(
-    g: Geometry,
-    job: Job,
-    reason: TurnDownReason,
-    boot: &mut [u8],
-    update: &mut [u8],
-    swap: &mut [u8],
-    budget: u64,
-) -> PowerUpAnswer
-    requires { (Shaped g (flash boot.old update.old swap.old)) × (WellFormed g update.old) }
-    ensures { answered result (flash boot.new update.new swap.new)
-        ≡ worked check_of g job (reason_of reason) (run job g budget 0 (flash boot.old update.old swap.old)) }
+fn do_job(f: &mut FlashMut, job: Job, reason: TurnDownReason, budget: u64) -> PowerUpAnswer
+    requires { (Shaped f.old.geometry (bytes f.old)) × (WellFormed f.old.geometry f.old.update.now) }
+    ensures same { SameFlash f.old f.new }
+    ensures answer { answered result (bytes f.new)
+        ≡ worked check_of f.old.geometry job (reason_of reason) (run job f.old.geometry budget 0 (bytes f.old)) }
 {
-    let end = exchange_steps::repeat_step(g, job, boot, update, swap, budget);
+    let end = f.repeat_step(job, budget);
     let left = end.left;
+    let boot = &mut *f.boot;
+    let update = &mut *f.update;
     PowerUpAnswer {
-        outcome: outcome_at(g, job, end, boot, update),
+        outcome: outcome_at(f.geometry, job, end, boot, update),
         reason,
         count: budget - left,
     }
 }
 
 // What was decided, done.
-fn carry_out(
-    g: Geometry,
-    plan: Plan,
-    boot: &mut [u8],
-    update: &mut [u8],
-    swap: &mut [u8],
-    budget: u64,
-) -> PowerUpAnswer
-    requires { (Shaped g (flash boot.old update.old swap.old)) × (plan_of plan ≡ decide_within check_of g boot.old update.old) }
-    ensures { answered result (flash boot.new update.new swap.new)
-        ≡ carry_out check_of g (flash boot.old update.old swap.old) budget (plan_of plan) }
+fn carry_out(f: &mut FlashMut, plan: Plan, budget: u64) -> PowerUpAnswer
+    requires { (Shaped f.old.geometry (bytes f.old))
+        × (plan_of plan ≡ decide_within check_of f.old.geometry f.old.boot.now f.old.update.now) }
+    ensures same { SameFlash f.old f.new }
+    ensures answer { answered result (bytes f.new)
+        ≡ carry_out check_of f.old.geometry (bytes f.old) budget (plan_of plan) }
 {
     match plan {
         Plan::Refuse(refusal) => idle(Outcome::Refused(refusal)),
-        Plan::Plain => idle(if_boot_good(g, Outcome::Run, boot)),
-        Plan::Work(job, reason) => do_job(g, job, reason, boot, update, swap, budget),
+        Plan::Plain => {
+            let boot = &mut *f.boot;
+            idle(if_boot_good(f.geometry, Outcome::Run, boot))
+        }
+        Plan::Work(job, reason) => do_job(f, job, reason, budget),
     }
 }
 
@@ -141,9 +136,15 @@ pub fn power_up(
         result (flash boot.new update.new swap.new) }
 {
     match flash::check_flash(sectors, size, boot, update, swap) {
-        GeometryAnswer::Fits(g) => {
-            let plan = power_up_decision::decide(g, boot, update);
-            carry_out(g, plan, boot, update, swap, budget)
+        GeometryAnswer::Fits(geometry) => {
+            let plan = power_up_decision::decide(geometry, boot, update);
+            let mut f = FlashMut {
+                geometry,
+                boot,
+                update,
+                swap,
+            };
+            carry_out(&mut f, plan, budget)
         }
         GeometryAnswer::Outside => idle(Outcome::Refused(PowerUpRefusal::OutsideRules)),
     }

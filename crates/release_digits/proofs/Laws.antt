@@ -1,17 +1,18 @@
 -- Digits, and what they stand for. Assumes nothing.
-use mathlib.Core.Path.{◌≡◌, refl, sym, ap, ◌∙◌}
+use mathlib.Core.Path.{◌≡◌, refl, sym, ◌∙◌}
 use Prim.Native.Nat.{ℕ, zero, suc, ◌+◌, ◌-◌, ◌*◌, ◌≤◌, ◌<◌}
 use mathlib.Core.List.{List, [], ◌∷◌, ◌++◌, append_assoc, append-nil}
-use mathlib.Core.Bool.{Bool, true, false, cond, ◌&&◌, true≢false}
+use mathlib.Core.Bool.{Bool, true, false, ◌&&◌}
 use native.Mathlib.Omega.{arith}
 use native.Mathlib.Numerals.{add-one}
 use lib.ListN.{length, get_or, take, drop, set, drop_of_length-le}
 use lib.Seq.{drop-cons, take-suc-set, take_all}
 use lib.Dec.{ltb, leb}
-use borrow.Author.Tests.{lt-ltb, le-leb, lt-leb, leb-true, leb-false, ltb-true}
+use borrow.Author.Tests.{lt-ltb, le-ltb, lt-leb, le-leb, leb-true, ltb-true}
+use Rattle.std.specs.Prelude.{Option, Some, None, SomeIff, IsSome}
+use Rattle.std.specs.Option.{is_some}
 use Rattle.numbers.proofs.Tests.{first_of, second_of}
-use Rattle.release_digits.specs.declared.Parsed.{Parsed}
-use Rattle.release_digits.specs.Digits.{between, is_digit, all_digits, number_from, decimal, decimal_up_to, hex_digit, all_hex, hex_bytes, Decimals, Appends}
+use Rattle.release_digits.specs.Digits.{between, is_digit, all_digits, number_from, decimal, decimal_up_to, hex_digit, all_hex, hex_bytes}
 
 -- ---- tests
 
@@ -26,29 +27,15 @@ both p q = rw (p, q)
 pub inside : (a b c : ℕ) → a ≤ c → c ≤ b → between a b c ≡ true
 inside a b c p q = rw (le-leb a c p, le-leb c b q)
 
-pub below : (a b c : ℕ) → c < a → between a b c ≡ false
-below a b c p = rw (lt-leb a c p)
-
 pub above : (a b c : ℕ) → b < c → between a b c ≡ false
 above a b c p = and_fails (leb a c) (lt-leb c b p)
 
--- a digit is one of "0" to "9", and a byte before or behind them is none
-pub not_below : (c : ℕ) → c < 48 → is_digit c ≡ false
-not_below c p = below 48 57 c p
-
+-- a digit is one of "0" to "9", and a byte behind them is none
 pub not_above : (c : ℕ) → 57 < c → is_digit c ≡ false
-not_above c p = above 48 57 c p
+not_above c p = above _ _ c p
 
 pub is_digit_lem : (c : ℕ) → 48 ≤ c → c ≤ 57 → is_digit c ≡ true
-is_digit_lem c p q = inside 48 57 c p q
-
--- ---- one digit more
-
-module _ {n c most : ℕ} {r : Parsed} where
-  pub not_appended : r ≡ record { taken = false; number = 0 } → is_digit c && leb (10 * n + (c - 48)) most ≡ false → Appends n c most r
-  not_appended e f =
-      let t : r.taken ≡ false = ap (λ (x : Parsed). x.taken) e in
-      record { taken = t ∙ sym f; number = λ h. absurd (true≢false (sym h ∙ t)) }
+is_digit_lem c p q = inside _ _ c (omega arith) q
 
 -- ---- decimal numbers
 
@@ -79,14 +66,13 @@ module _ {s : List ℕ} {n i : ℕ} (read : Read s n i) where
     pub one_read : is_digit (get_or s i 0) ≡ true → Read s (10 * n + (get_or s i 0 - 48)) (i + 1)
     one_read d = record { digits = rw add-one (sym (here_digits ∙ rw d)); is = rw add-one (sym here_number) }
 
-    pub refuses : (most : ℕ) → is_digit (get_or s i 0) && leb (10 * n + (get_or s i 0 - 48)) most ≡ false → decimal_up_to most s ≡ false
-    refuses most e = and_fails (ltb 0 (length s)) (go (is_digit (get_or s i 0)) refl)
-      where
-        go : (b : Bool) → is_digit (get_or s i 0) ≡ b → all_digits s && leb (decimal s) most ≡ false
-        go false d = rw (here_digits, d)
-        go true d =
-            let f : leb (10 * n + (get_or s i 0 - 48)) most ≡ false = rw d at e in
-            and_fails (all_digits s) (lt-leb (decimal s) most (omega (arith, here_number, leb-false (10 * n + (get_or s i 0 - 48)) most f, from_below (10 * n + (get_or s i 0 - 48)) (drop (suc i) s))))
+    -- a digit or a number that is refused
+    pub refuses : (most : ℕ) → (is_digit (get_or s i 0) && leb (10 * n + (get_or s i 0 - 48)) most ≡ true → ⊥) → decimal_up_to most s ≡ true → ⊥
+    refuses most not e =
+        let tests = second_of (ltb 0 (length s)) (all_digits s && leb (decimal s) most) e in
+        let digit = first_of (is_digit (get_or s i 0)) (all_digits (drop (suc i) s)) (sym here_digits ∙ first_of (all_digits s) (leb (decimal s) most) tests) in
+        let le = leb-true (decimal s) most (second_of (all_digits s) (leb (decimal s) most) tests) in
+        not (rw (digit, le-leb (10 * n + (get_or s i 0 - 48)) most (omega (arith, here_number, from_below (10 * n + (get_or s i 0 - 48)) (drop (suc i) s)))))
 
   -- at the end
   module _ (end : length s ≤ i) where
@@ -98,33 +84,10 @@ module _ {s : List ℕ} {n i : ℕ} (read : Read s n i) where
     unfolding number_from
     end_number = rw (drop_of_length-le s end) at read.is
 
-    pub all_read : (most : ℕ) → 0 < length s → n ≤ most → Decimals most s (record { taken = true; number = n })
-    all_read most some le =
-        let w : decimal_up_to most s ≡ true = rw (lt-ltb _ _ some, end_digits, ← end_number, le-leb _ _ le) in
-        record { taken = sym w; number = rw w end_number }
-
-pub none_read : {most : ℕ} {s : List ℕ} {r : Parsed} → r ≡ record { taken = false; number = 0 } → decimal_up_to most s ≡ false → Decimals most s r
-none_read e f = record { taken = ap (λ (x : Parsed). x.taken) e ∙ sym f; number = rw f (ap (λ (x : Parsed). x.number) e) }
+    pub all_read : (most : ℕ) → 0 < length s → n ≤ most → (decimal_up_to most s ≡ true) × (n ≡ decimal s)
+    all_read most some le = (rw (lt-ltb _ _ some, end_digits, ← end_number, le-leb _ _ le), end_number)
 
 -- ---- hexadecimal digits
-
-pub hex_inside : (c : ℕ) → hex_digit c ≤ 16
-hex_inside c = go (is_digit c) (between 97 102 c) (between 65 70 c) refl refl refl
-  where
-    go : (a b d : Bool) → is_digit c ≡ a → between 97 102 c ≡ b → between 65 70 c ≡ d → cond a (c - 48) (cond b (c - 87) (cond d (c - 55) 16)) ≤ 16
-    go true b d p q r = let k = leb-true c 57 (second_of (leb 48 c) (leb c 57) p) in omega arith
-    go false true d p q r = let k = leb-true c 102 (second_of (leb 97 c) (leb c 102) q) in omega arith
-    go false false true p q r = let k = leb-true c 70 (second_of (leb 65 c) (leb c 70) r) in omega arith
-    go false false false p q r = omega arith
-
--- entry by entry
-pub hex_next : (s : List ℕ) (i : ℕ) → i < length s → all_hex (drop i s) ≡ ltb (hex_digit (get_or s i 0)) 16 && all_hex (drop (i + 1) s)
-unfolding all_hex
-hex_next s i lt = rw (add-one, drop-cons s i 0 lt)
-
-pub hex_end : (s : List ℕ) (i : ℕ) → length s ≤ i → all_hex (drop i s) ≡ true
-unfolding all_hex
-hex_end s i le = rw (drop_of_length-le s le)
 
 -- each of them
 pub hex_each : (s : List ℕ) (i : ℕ) → all_hex s ≡ true → i < length s → hex_digit (get_or s i 0) < 16
@@ -132,6 +95,15 @@ unfolding all_hex
 hex_each [] i e lt = absurd (omega arith)
 hex_each (c ∷ l) zero e lt = ltb-true _ _ (first_of (ltb (hex_digit c) 16) (all_hex l) e)
 hex_each (c ∷ l) (suc i) e lt = hex_each l i (second_of (ltb (hex_digit c) 16) (all_hex l) e) (omega arith)
+
+-- what a byte's worth as a digit tells
+pub digit_there : (o : Option ℕ) {n : ℕ} → SomeIff o (n < 16) n → n < 16 → IsSome o
+digit_there (Some x) e lt = refl
+digit_there None e lt = absurd (e lt)
+
+pub digit_told : (o : Option ℕ) (n : ℕ) → SomeIff o (n < 16) n → is_some o ≡ ltb n 16
+digit_told (Some x) n e = sym (lt-ltb n 16 e.0)
+digit_told None n e = sym (le-ltb n 16 (omega (arith, e)))
 
 -- two digits are one byte
 bytes_next : (s : List ℕ) (j : ℕ) → j + 1 < length s

@@ -4,10 +4,10 @@ use mathlib.Core.Logic.{inl, inr}
 use mathlib.Core.Bool.{Bool, true, false}
 use Prim.Native.Nat.{ℕ, ◌≤◌}
 use native.Mathlib.Omega.{arith}
+use Rattle.std.specs.Prelude.{Option, None}
 use Rattle.numbers.specs.Answer.{Answer, numbered}
+use Rattle.exchange.specs.declared.Operation.{Operation}
 use Rattle.exchange.specs.Base.{Geometry, Flash, fits}
-use Rattle.exchange.specs.declared.Next.{Next}
-use Rattle.exchange.specs.declared.Next.TheVariants.{Nothing}
 use Rattle.exchange.specs.Decision.{Check, Good, plain, decide}
 use Rattle.exchange.specs.PowerUp.{Outcome, refusal, runs, PowerUp, if_boot_good, idle, carry_out, power_up, next_in, next_after}
 use Rattle.exchange.specs.LostPower.{Torn, tear_next}
@@ -21,7 +21,7 @@ module _ (check : Check) (y : Flash) where
   -- a geometry with which power-up does nothing
   record Idles (g : Geometry) (o : Outcome) : Type 0 where
     up : (k : ℕ) → power_up check g y k ≡ idle o y
-    next : (k : ℕ) → next_after check g y k ≡ Nothing
+    next : (k : ℕ) → next_after check g y k ≡ None
 
   outside : (g : Geometry) → fits g y ≡ false → Idles g (refusal (numbered 1 0))
   unfolding next_after
@@ -42,7 +42,7 @@ module _ (check : Check) (y : Flash) where
 
     idle_lost : (budget k : ℕ) (t : Torn) → left check y (lost g' budget k t) ≡ left_lost k y
     unfolding left
-    idle_lost budget k t = ap₂ (λ (n : Next) (a : PowerUp). left_lost k (tear_next g' t n a.flash)) (I.next k) (I.up k)
+    idle_lost budget k t = ap₂ (λ (n : Option Operation) (a : PowerUp). left_lost k (tear_next g' t n a.flash)) (I.next k) (I.up k)
 
     none_lost : (budget k : ℕ) → k ≤ (power_up check g' y budget).count → k ≡ 0
     none_lost budget k h = let z : k ≤ 0 = subst (λ (a : PowerUp). k ≤ a.count) (I.up budget) h in omega arith

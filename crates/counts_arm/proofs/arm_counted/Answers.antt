@@ -1,8 +1,10 @@
 use mathlib.Core.Path.{ap, ◌∙◌}
 use native.Mathlib.Omega.{arith}
 use Rattle.numbers.specs.GivenBack.{row_number}
-use Rattle.flash.specs.Buffers.{flash}
+use borrow.Author.Rules.{rules}
+use Rattle.flash.specs.Buffers.{Flash, flash}
 use Rattle.flash.proofs.Answers.{flash_given_lem}
+use Rattle.exchange_steps.proofs.Runs.{given_back}
 use Rattle.exchange_commands.specs.Numbers.{commanded}
 use Rattle.counts.proofs.FirstChecks.{found}
 use Rattle.counts_row.specs.Inner.{row_says}
@@ -36,9 +38,11 @@ returns-in-Counts c =
     let a = c.args in
     let f = flash a.boot.now a.update.now a.swap.now in
     let o = c.obey-a in
+    let k = o.ensures.same in
+    let left = given_back o.new.f (search (rules, k)) (search (rules, k)) (search (rules, k)) in
     rw c.with_total.ensures
     (counted_inside a.sectors a.size f a.row.now a.total _ e _ c.check_row.ensures (ap row_says c.in-Counts.is)
-    (commanded o.result _) _ _ o.ensures.0 o.ensures.1 c.sum_of-sum.ensures)
+    (commanded o.result _) _ _ (ap (λ (x : Flash). commanded o.result x) left ∙ o.ensures.answer.0) o.ensures.answer.1 c.sum_of-sum.ensures)
 
 pub returns-in-OtherLength : goal.returns-in-OtherLength
 returns-in-OtherLength c =

@@ -1,9 +1,4 @@
-use mathlib.Core.Path.{refl, ap, ◌∙◌}
-use Rattle.flash.specs.Buffers.{flash}
-use Rattle.exchange.specs.PowerUp.{Outcome, idle}
-use Rattle.image.specs.Verdict.{check_of}
-use Rattle.power_up.specs.declared.PowerUpAnswer.{PowerUpAnswer}
-use Rattle.power_up.specs.Delivered.{answered}
+use Rattle.exchange_steps.specs.Lent.{bytes}
 use Rattle.counts_power_up.proofs.Calls.{stays_in_job}
 use borrow.Author.Rules.{rules}
 use Rattle.counts_power_up.proofs.carry_out.Goals as goal
@@ -14,5 +9,5 @@ do_job-requires c =
       c.requires.0,
       search rules,
       c.requires.2,
-      stays_in_job a.g (flash a.boot.now a.update.now a.swap.now) c.requires.0 _ a.budget a.row.now c.requires.3,
+      stays_in_job a.f.now.geometry (bytes a.f.now) c.requires.0 _ a.budget a.row.now c.requires.3,
     )

@@ -1,9 +1,10 @@
 use mathlib.Core.Path.{ap, ◌∙◌}
 use native.Mathlib.Omega.{arith}
 use Rattle.numbers.specs.GivenBack.{row_number}
-use Rattle.flash.specs.Buffers.{flash}
+use Rattle.flash.specs.Buffers.{Flash, flash}
 use Rattle.flash.proofs.Checked.{boot_partition, update_partition}
 use Rattle.flash.proofs.Answers.{flash_given_lem}
+use Rattle.exchange_steps.proofs.Runs.{given_back}
 use Rattle.image.specs.Verdict.{check_of}
 use Rattle.power_up_decision.specs.Inner.{plan_of}
 use Rattle.power_up.specs.Delivered.{answered}
@@ -43,9 +44,12 @@ returns-in-Counts c =
     let f = flash a.boot.now a.update.now a.swap.now in
     let d = c.decide-plan in
     let o = c.carry_out-a in
+    let k = o.ensures.same in
+    let left = given_back o.new.f (search (rules, k)) (search (rules, k)) (search (rules, k)) in
     rw c.with_total.ensures
     (counted_inside a.sectors a.size f check_of a.budget a.row.now a.total _ e _ c.check_row.ensures (ap row_says c.in-Counts.is)
-    (plan_of d.result) d.ensures (answered o.result _) _ _ o.ensures.0 o.ensures.1 c.sum_of-sum.ensures)
+    (plan_of d.result) d.ensures (answered o.result _) _ _ (ap (λ (x : Flash). answered o.result x) left ∙ o.ensures.answer.0) o.ensures.answer.1
+    c.sum_of-sum.ensures)
 
 pub returns-in-OtherLength : goal.returns-in-OtherLength
 returns-in-OtherLength c =

@@ -7,6 +7,9 @@ use Rattle.counts_steps.proofs.do_next_counted.Goals as goal
 pub count_done-requires : goal.count_done-requires
 count_done-requires c =
     let a = c.args in
+    let f = a.f.now in
     let G = c.requires.0.limits in
-    let e = sym c.do_next-step.ensures.found ∙ c.in-Do.is in
-    (G, next_within a.g G a.job a.at a.boot.now a.update.now _ c.requires.1 e, c.requires.3, subst (λ (m : Next). RoomForNext a.g m a.row.now) e c.requires.4)
+    let s = c.do_next-step.ensures in
+    let e = sym s.step.found ∙ c.in-Do.is in
+    rw s.same.geometry
+    (G, next_within f.geometry G a.job a.at f.boot.now f.update.now _ c.requires.1 e, c.requires.3, subst (λ (m : Next). RoomForNext f.geometry m a.row.now) e c.requires.4)

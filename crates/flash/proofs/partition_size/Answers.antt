@@ -2,7 +2,6 @@ use mathlib.Core.Path.{sym, ap, ◌∙◌}
 use Prim.Native.Nat.{ℕ, ◌+◌, ◌*◌}
 use native.Mathlib.Omega.{arith}
 use Rattle.flash.proofs.Checked.{sectors_are, size_split}
-use borrow.Author.Rules.{rules}
 use Rattle.flash.proofs.partition_size.Goals as goal
 
 pub offset_of-requires : goal.offset_of-requires

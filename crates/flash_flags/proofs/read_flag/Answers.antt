@@ -14,4 +14,4 @@ pub returns : goal.returns
 unfolding flag_at
 returns c =
     let a = c.args in
-    c.of.ensures ∙ ap flag_of (c.half_of.ensures ∙ ap (λ (p : ℕ). half a.i.0 (get_or a.update.now p 0)) c.flag_offset-at.ensures)
+    c.ok.ensures.value ∙ c.try_from.ensures ∙ ap flag_of (c.half_of.ensures ∙ ap (λ (p : ℕ). half a.i.0 (get_or a.update.now p 0)) c.flag_offset-at.ensures)

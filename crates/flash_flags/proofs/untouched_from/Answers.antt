@@ -1,25 +1,17 @@
-use mathlib.Core.Path.{sym, ◌∙◌}
+use mathlib.Core.Path.{refl, ◌∙◌}
 use native.Mathlib.Omega.{arith}
+use Prim.Native.Nat.{◌-◌}
+use Rattle.std.proofs.Common.{rules}
+use borrow.Author.Tests.{tests}
+use Rattle.std.proofs.lemmas.Iterator.{YieldsList-from_range}
+use Rattle.std.proofs.lemmas.Iterator.Search.{all_from_yields_List}
 use Rattle.flash.specs.Sizes.{firmware}
-use Rattle.flash_flags.proofs.Scan.{all_f_end, all_f_on, all_f_not}
+use Rattle.flash_flags.specs.SectorFlags.{flag_at, is_f}
+use Rattle.flash_flags.proofs.Scan.{same_as_f, all_f_listed}
 use Rattle.flash_flags.proofs.untouched_from.Goals as goal
-
-pub loop-i-preserved : goal.loop-i-preserved
-loop-i-preserved c =
-    let l = c.loop-i in
-    let a = c.args in
-    sym (all_f_on a.g a.update.now (firmware a.g) l.i (omega arith) _ c.read_flag-flag.ensures (sym c.is_untouched.ensures ∙ c.if-is_untouched.true))
-    ∙ l.invariant
-
-pub returns-else-is_untouched : goal.returns-else-is_untouched
-returns-else-is_untouched c =
-    let l = c.loop-i in
-    let a = c.args in
-    sym (all_f_not a.g a.update.now (firmware a.g) l.i (omega arith) _ c.read_flag-flag.ensures (sym c.is_untouched.ensures ∙ c.if-is_untouched.false))
-    ∙ l.invariant
 
 pub returns : goal.returns
 returns c =
-    let l = c.loop-i in
     let a = c.args in
-    sym (all_f_end a.g a.update.now (firmware a.g) l.i (omega arith)) ∙ l.invariant
+    all_from_yields_List (λ j. is_f (flag_at a.g a.update.now j)) _ _ _ c.all.ensures.ran (YieldsList-from_range a.start.0 c.firmware_sectors.result (firmware a.g - a.start.0) refl (omega arith)) (λ x b q k. search (rules, tests, same_as_f))
+    ∙ all_f_listed a.g a.update.now (firmware a.g - a.start.0) a.start.0

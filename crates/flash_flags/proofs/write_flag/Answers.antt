@@ -20,5 +20,5 @@ returns c =
     let a = c.args in
     let o = c.flag_offset-at in
     let l = a.update.now in
-    ap (λ (v : ℕ). set l o.result.0 v) (c.with_half.ensures ∙ ap (λ (v : ℕ). with_half a.i.0 (get_or l o.result.0 0) v) c.value.ensures)
+    ap (λ (v : ℕ). set l o.result.0 v) (c.with_half.ensures ∙ ap (λ (v : ℕ). with_half a.i.0 (get_or l o.result.0 0) v) c.from.ensures)
     ∙ ap (λ (p : ℕ). set l p (with_half a.i.0 (get_or l p 0) (flag_value a.flag))) o.ensures

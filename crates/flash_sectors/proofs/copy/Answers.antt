@@ -1,12 +1,9 @@
-use mathlib.Core.Path.{ap, ◌∙◌}
-use mathlib.Core.List.{List}
-use Prim.Native.Nat.{ℕ, ◌≤◌, ◌<◌}
+use mathlib.Core.Path.{ap}
 use native.Mathlib.Omega.{arith}
-use lib.ListN.{length, get_or, set, length-set}
+use lib.ListN.{length}
 use borrow.Author.Tests.{eq-eqb, ne_eqb}
-use Rattle.flash_sectors.specs.declared.CopyAnswer.TheVariants.{Done}
+use Rattle.std.specs.Prelude.{Ok}
 use Rattle.flash_sectors.specs.Copying.{copied, copy_of}
-use Rattle.flash_sectors.proofs.Lent.{copy_more, copy_done}
 use Rattle.flash_sectors.proofs.copy.Goals as goal
 
 pub returns-then-target-source : goal.returns-then-target-source
@@ -15,22 +12,8 @@ returns-then-target-source c =
     let a = c.args in
     simp (ne_eqb (length a.target.now) (length a.source.now) (λ e. omega arith))
 
-pub loop-i-preserved : goal.loop-i-preserved
-loop-i-preserved c =
-    let l = c.loop-i in
-    let a = c.args in
-    let hd : l.i < length a.target.now = omega arith in
-    let hs : l.i < length a.source.now = omega arith in (
-      omega arith,
-      ap (λ (x : List ℕ). set x l.i (get_or a.source.now l.i 0)) l.invariant.1 ∙ copy_more _ _ l.i hs hd,
-      simp length-set l.invariant.2,
-    )
-
 pub returns : goal.returns
 unfolding copy_of
 returns c =
-    let l = c.loop-i in
     let a = c.args in
-    let d : length a.target.now ≤ l.i = omega arith in
-    let e : length a.source.now ≤ l.i = omega arith in
-    rw (eq-eqb (length a.target.now) (length a.source.now) (omega arith)) (ap (copied Done) (l.invariant.1 ∙ copy_done a.source.now a.target.now l.i e d))
+    rw (eq-eqb (length a.target.now) (length a.source.now) (omega arith)) (ap (copied (Ok tt)) c.copy_from_slice.ensures.after)

@@ -6,11 +6,11 @@ use Rattle.header_places.specs.Judging.{places_in}
 use Rattle.header_places.proofs.Judged.{Goes}
 use Rattle.header_places.proofs.find_places.Given as goal
 
-abbrev pub invariant-loop-place : goal.invariant-loop-place
-invariant-loop-place l =
+abbrev pub invariant-loop-tag : goal.invariant-loop-tag
+invariant-loop-tag l =
     (length l.types ≡ 6)
     × (length l.places ≡ 6)
     × Goes (table l.types l.lengths l.required) l.places l.h l.at (places_in (table l.types l.lengths l.required) l.h)
 
-abbrev pub decreases-loop-place : goal.decreases-loop-place
-decreases-loop-place l = length l.h - l.at
+abbrev pub decreases-loop-tag : goal.decreases-loop-tag
+decreases-loop-tag l = length l.h - l.at

@@ -1,4 +1,4 @@
-use Rattle.std.proofs.Common.{◌+◌, ◌-◌, ◌*◌, ◌≡◌, ◌≤◌, length}
+use Rattle.std.proofs.Common.{◌+◌, ◌-◌, ◌*◌, ◌≡◌, length}
 use Rattle.header_tags.specs.Walk.{next_item}
 use Rattle.header_tags.proofs.+read_tag_skip_padding.Given as goal
 
@@ -9,8 +9,5 @@ decreases-read_tag l = 2 * (length l.h.now - l.at)
 abbrev pub decreases-skip_padding : goal.decreases-skip_padding
 decreases-skip_padding l = 2 * (length l.h.now - l.at) + 1
 
-abbrev pub invariant-skip_padding-loop-p : goal.invariant-skip_padding-loop-p
-invariant-skip_padding-loop-p l = (l.at ≤ l.p) × (next_item l.h l.p ≡ next_item l.h l.at)
-
-abbrev pub decreases-skip_padding-loop-p : goal.decreases-skip_padding-loop-p
-decreases-skip_padding-loop-p l = length l.h - l.p
+abbrev pub invariant-skip_padding-loop-place : goal.invariant-skip_padding-loop-place
+invariant-skip_padding-loop-place l = next_item l.h l.place ≡ next_item l.h l.at

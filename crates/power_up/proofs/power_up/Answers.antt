@@ -1,9 +1,12 @@
-use mathlib.Core.Path.{◌∙◌}
-use Rattle.flash.specs.Buffers.{flash}
+use mathlib.Core.Path.{ap, ◌∙◌}
+use borrow.Author.Rules.{rules}
+use Rattle.flash.specs.Buffers.{Flash, flash}
 use Rattle.flash.proofs.Checked.{boot_partition, update_partition}
 use Rattle.flash.proofs.Answers.{flash_given_lem}
+use Rattle.exchange_steps.proofs.Runs.{given_back}
 use Rattle.image.specs.Verdict.{check_of}
 use Rattle.power_up_decision.specs.Inner.{plan_of}
+use Rattle.power_up.specs.Delivered.{answered}
 use Rattle.power_up.proofs.Calls.{power_up_inside, power_up_outside}
 use Rattle.power_up.proofs.power_up.Goals as goal
 
@@ -18,7 +21,10 @@ pub returns-in-Fits : goal.returns-in-Fits
 returns-in-Fits c =
     let a = c.args in
     let d = c.decide-plan in
-    c.carry_out.ensures
+    let o = c.carry_out in
+    let k = o.ensures.same in
+    ap (λ (f : Flash). answered o.result f) (given_back o.new.f (search (rules, k)) (search (rules, k)) (search (rules, k)))
+    ∙ o.ensures.answer
     ∙ power_up_inside a.sectors a.size (flash a.boot.now a.update.now a.swap.now) _ (rw c.in-Fits.is at c.check_flash.ensures) check_of
     a.budget (plan_of d.result) d.ensures
 

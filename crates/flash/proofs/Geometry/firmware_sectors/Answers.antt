@@ -1,6 +1,5 @@
 use mathlib.Core.Path.{refl}
 use Rattle.flash.specs.Sizes.{firmware}
-use borrow.Author.Rules.{rules}
 use Rattle.flash.proofs.Geometry.firmware_sectors.Goals as goal
 
 pub returns : goal.returns

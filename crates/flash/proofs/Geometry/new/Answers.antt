@@ -1,5 +1,4 @@
 use native.Mathlib.Omega.{arith}
-use borrow.Author.Rules.{rules}
 use Rattle.flash.specs.Sizes.{firmware}
 use Rattle.flash.proofs.Taken.{inside, outside}
 use Rattle.flash.proofs.Geometry.new.Goals as goal
