@@ -22,7 +22,6 @@ pub use flash_ref::FlashRef;
 use header_places::ROWS;
 use header_tags::HEADER_LENGTH;
 use mending::{Mark, OldImage};
-use numbers::HeaderOutcome;
 
 // ---- what the headers state
 
@@ -57,13 +56,8 @@ fn claim_at(first: &[u8], places: [usize; ROWS], limit: usize) -> Option<Claim>
 fn read_claim(first: &[u8], limit: usize) -> Option<Claim>
     ensures { result ≡ claim_in limit first.now }
 {
-    let found = header_reader::locate(first);
-    let outcome = found.outcome;
-    let places = found.places;
-    if let HeaderOutcome::Accepted = outcome {
-        return claim_at(first, places, limit);
-    }
-    None
+    let places = header_reader::locate(first).ok()?;
+    claim_at(first, places, limit)
 }
 
 // ---- the sectors of an old image
