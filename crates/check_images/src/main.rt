@@ -64,21 +64,19 @@ fn print_damaged(
 }
 
 fn check_damaged(rt: &impl Print, partition: [u8; PARTITION], mask: u8) -> io::Result<()> {
-    for at in 0..264 {
+    for at in (0..264).chain([300, 511, 512, 767]) {
         print_damaged(rt, partition, at, mask)?;
     }
-    print_damaged(rt, partition, 300, mask)?;
-    print_damaged(rt, partition, 511, mask)?;
-    print_damaged(rt, partition, 512, mask)?;
-    print_damaged(rt, partition, 767, mask)
+    Ok(())
 }
 
 // Copies of the first file, damaged in several ways.
 fn check_first(rt: &impl Runtime, name: &str) -> io::Result<()> {
     let partition = partition_of(rt, name)?;
-    check_damaged(rt, partition, 1)?;
-    check_damaged(rt, partition, 128)?;
-    check_damaged(rt, partition, 255)
+    for mask in [1, 128, 255] {
+        check_damaged(rt, partition, mask)?;
+    }
+    Ok(())
 }
 
 fn main(rt: HostRuntime) -> io::Result<()> {
