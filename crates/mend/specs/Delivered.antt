@@ -15,8 +15,8 @@ abbrev pub MendAnswer : Type 0
 MendAnswer = Result Mended MendRefusal
 
 -- The mark k was mended, and so many bytes differ.
-abbrev pub with_flags : Mark → ℕ → MendAnswer
-with_flags k n = Ok (record { mark = k; bytes = n })
+abbrev pub mended_with : Mark → ℕ → MendAnswer
+mended_with k n = Ok (record { mark = k; bytes = n })
 
 -- The mark and the number of flag bytes that differ, or a refusal, at no place.
 abbrev pub mend_of : MendAnswer → Answer Given
