@@ -18,7 +18,9 @@ use Rattle.numbers.specs.declared.Refused.{Refused}
 use Rattle.numbers.specs.GivenBack.{refused_with, answer_by}
 use Rattle.header_tags.specs.Walk.{Item, tag, end, next_item, on_item, tags_at}
 use Rattle.header_tags.proofs.Laws.{tags_step, next_within}
-use Rattle.header_places.specs.Table.{TagTable}
+use Rattle.header_places.specs.declared.Row.{Row}
+use Rattle.header_places.specs.Table.{TagTable, types_of, lengths_of}
+use lib.ListN.{length-map, get_or-map}
 use Rattle.header_places.specs.Judging.{row_of, judge, places_in}
 use Rattle.header_places.proofs.RuledOut.{other_tag, critical_tag, length_tag, repeated_tag, taken_tag}
 
@@ -39,20 +41,38 @@ module _ (n k : ℕ) where
       go false d e = ltb-false n k d
 
 -- what the code tells of a row: where it found one, and where it found none
-module _ (l : List ℕ) (x : ℕ) where
-  row_first : row_of l x ≡ position_or_len (λ (y : ℕ). y == x) l
+module _ (x : ℕ) where
+  found_or : (b : Bool) (n : ℕ) → (elim b as (λ (_ : Bool). ℕ) [ true ↦ 0 | false ↦ suc n ]) ≡ cond b 0 (1 + n)
+  found_or true n = refl
+  found_or false n = omega arith
+
+  row_first : (l : List ℕ) → row_of l x ≡ position_or_len (λ (y : ℕ). y == x) l
   unfolding row_of
-  row_first = is_position_or_len (λ k. row_of k x) (λ (y : ℕ). y == x) refl (λ y ys. go (eqb y x) (row_of ys x)) l
-    where
-      go : (b : Bool) (n : ℕ) → (elim b as (λ (_ : Bool). ℕ) [ true ↦ 0 | false ↦ suc n ]) ≡ cond b 0 (1 + n)
-      go true n = refl
-      go false n = omega arith
+  row_first l = is_position_or_len (λ k. row_of k x) (λ (y : ℕ). y == x) refl (λ y ys. found_or (eqb y x) (row_of ys x)) l
 
-  pub row_is : {r : ℕ} → Some r ≡ position (λ (y : ℕ). y == x) l → (r ≡ row_of l x) × (r < length l)
-  row_is e = rw row_first (told_is _ _ e)
+  type_first : (rows : List Row) → row_of (types_of rows) x ≡ position_or_len (λ (r : Row). r.kind == x) rows
+  unfolding row_of
+  type_first rows =
+      is_position_or_len (λ k. row_of (types_of k) x) (λ (r : Row). r.kind == x) refl (λ r rs. found_or (eqb r.kind x) (row_of (types_of rs) x)) rows
 
-  pub no_row : None ≡ position (λ (y : ℕ). y == x) l → length l ≤ row_of l x
-  no_row e = rw row_first (none_is _ _ e)
+pub row_is : (l : List ℕ) (x : ℕ) {r : ℕ} → Some r ≡ position (λ (y : ℕ). y == x) l → (r ≡ row_of l x) × (r < length l)
+row_is l x e = rw (row_first x l) (told_is _ _ e)
+
+pub no_row : (l : List ℕ) (x : ℕ) → None ≡ position (λ (y : ℕ). y == x) l → length l ≤ row_of l x
+no_row l x e = rw (row_first x l) (none_is _ _ e)
+
+pub type_is : (rows : List Row) (x : ℕ) {r : ℕ} → Some r ≡ position (λ (w : Row). w.kind == x) rows → (r ≡ row_of (types_of rows) x) × (r < length (types_of rows))
+type_is rows x e = rw (type_first x rows, length-map rows (λ (r : Row). r.kind)) (told_is _ _ e)
+
+pub no_type : (rows : List Row) (x : ℕ) → None ≡ position (λ (w : Row). w.kind == x) rows → length (types_of rows) ≤ row_of (types_of rows) x
+no_type rows x e = rw (type_first x rows, length-map rows (λ (r : Row). r.kind)) (none_is _ _ e)
+
+-- a row's length and type, in the table's lists
+pub length_at : (rows : List Row) (r : ℕ) → get_or (lengths_of rows) r 0 ≡ (get_or rows r (record { kind = 0; length = 0 })).length
+length_at rows r = get_or-map (λ (w : Row). w.length) rows r (record { kind = 0; length = 0 })
+
+pub type_at : (rows : List Row) (r : ℕ) → get_or (types_of rows) r 0 ≡ (get_or rows r (record { kind = 0; length = 0 })).kind
+type_at rows r = get_or-map (λ (w : Row). w.kind) rows r (record { kind = 0; length = 0 })
 
 -- From the place `at` on, with the places seen, the answer is O. A record, so that the laws below take its parameters implicitly.
 pub record Goes (T : TagTable) (seen h : List ℕ) (at : ℕ) (O : Answer (List ℕ)) : Type 0 where
@@ -75,22 +95,22 @@ module _ {T : TagTable} {seen h : List ℕ} {at : ℕ} {O : Answer (List ℕ)} {
   pub tag_in : (at ≤ q) × (q + 4 + n ≤ length h)
   tag_in = next_within h at (sym g)
 
-  module _ (none : None ≡ position (λ (y : ℕ). y == k) T.types) where
+  module _ (none : length T.types ≤ row_of T.types k) where
     pub skipped : k < T.critical → Goes T seen h (q + 4 + n) O
-    skipped b = record { is = sym (other_tag T seen q k n _ refl (no_row _ _ none) b) ∙ first inv g }
+    skipped b = record { is = sym (other_tag T seen q k n _ refl none b) ∙ first inv g }
 
     pub not_understood_lem : T.critical ≤ k → refused 18 q ≡ O
-    not_understood_lem b = sym (critical_tag T seen q k n _ refl (no_row _ _ none) b) ∙ first inv g
+    not_understood_lem b = sym (critical_tag T seen q k n _ refl none b) ∙ first inv g
 
-  module _ {r : ℕ} (some : Some r ≡ position (λ (y : ℕ). y == k) T.types) where
+  module _ {r : ℕ} (w : (r ≡ row_of T.types k) × (r < length T.types)) where
     pub wrong_length_lem : (n ≡ get_or T.lengths r 0 → ⊥) → refused 5 q ≡ O
-    wrong_length_lem b = let w = row_is _ _ some in sym (length_tag T seen q k n _ (sym w.0) w.1 b) ∙ first inv g
+    wrong_length_lem b = sym (length_tag T seen q k n _ (sym w.0) w.1 b) ∙ first inv g
 
     pub repeated : n ≡ get_or T.lengths r 0 → (get_or seen r 0 ≡ 0 → ⊥) → refused 6 q ≡ O
-    repeated b d = let w = row_is _ _ some in sym (repeated_tag T seen q k n _ (sym w.0) w.1 b d) ∙ first inv g
+    repeated b d = sym (repeated_tag T seen q k n _ (sym w.0) w.1 b d) ∙ first inv g
 
     pub taken : n ≡ get_or T.lengths r 0 → get_or seen r 0 ≡ 0 → Goes T (set seen r q) h (q + 4 + n) O
-    taken b d = let w = row_is _ _ some in record { is = sym (taken_tag T seen q k n _ (sym w.0) w.1 b d) ∙ first inv g }
+    taken b d = record { is = sym (taken_tag T seen q k n _ (sym w.0) w.1 b d) ∙ first inv g }
 
 module _ {T : TagTable} {seen h : List ℕ} {at : ℕ} {O : Answer (List ℕ)} (inv : Goes T seen h at O) where
   module _ (g : gives end ≡ next_item h at) (room : T.required ≤ length seen) where

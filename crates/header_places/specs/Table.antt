@@ -1,5 +1,6 @@
 -- Document 01, "The header": the table of tags, as data; with the bound of document 02, "Tags that must be understood".
-use Rattle.std.specs.Prelude.{ℕ, List, [], ◌∷◌}
+use Rattle.std.specs.Prelude.{ℕ, List, [], ◌∷◌, map}
+use Rattle.header_places.specs.declared.Row.{Row}
 use Rattle.header_places.specs.declared.TagTable.{TagTable as CodeTable}
 
 -- The types in rising order, the length that each type's value has, and how many of the rows, from the first on, are required. A type from
@@ -14,9 +15,15 @@ pub record TagTable : Type 0 where
 abbrev pub table : List ℕ → List ℕ → ℕ → TagTable
 table t n k = record { types = t; lengths = n; required = k; critical = 0x8000 }
 
--- The table that the code is handed.
+-- The table that the code is handed, row by row.
+abbrev pub types_of : List Row → List ℕ
+types_of rows = map (λ (r : Row). r.kind) rows
+
+abbrev pub lengths_of : List Row → List ℕ
+lengths_of rows = map (λ (r : Row). r.length) rows
+
 abbrev pub table_of : CodeTable → TagTable
-table_of t = table t.types t.lengths t.required
+table_of t = table (types_of t.rows) (lengths_of t.rows) t.required
 
 -- The same rows with another bound, to say what the bound does.
 abbrev pub bounded_by : ℕ → TagTable → TagTable

@@ -8,7 +8,7 @@ ghost use Rattle.header_places.specs.Judging.{TagsFit};
 ghost use Rattle.header_reader.specs.Reading.{bytes_at, tag_places, values_at, read_header, blank};
 ghost use Rattle.numbers.specs.GivenBack.{header_answer};
 
-use header_places::{ROWS, TagTable};
+use header_places::{ROWS, Row, TagTable};
 use numbers::HeaderRefusal;
 
 // What a header carries.
@@ -63,15 +63,32 @@ impl Header {
 
 // The table of tags: the types, the lengths of their values, and how many of the rows, from the first on, are required.
 const TABLE: TagTable = TagTable {
-    types: [
-        Header::VERSION,
-        Header::TIMESTAMP,
-        Header::DIGEST,
-        Header::SIGNATURE,
-        Header::AUTH_TYPE,
-        Header::HINT,
+    rows: [
+        Row {
+            kind: Header::VERSION,
+            length: 4,
+        },
+        Row {
+            kind: Header::TIMESTAMP,
+            length: 8,
+        },
+        Row {
+            kind: Header::DIGEST,
+            length: 32,
+        },
+        Row {
+            kind: Header::SIGNATURE,
+            length: 64,
+        },
+        Row {
+            kind: Header::AUTH_TYPE,
+            length: 2,
+        },
+        Row {
+            kind: Header::HINT,
+            length: 32,
+        },
     ],
-    lengths: [4, 8, 32, 64, 2, 32],
     required: 5,
 };
 

@@ -56,8 +56,7 @@ pub extern "C" fn tainhosa_sha256(message: &[u8], digest: &mut [u8]) -> u32
     if digest.len() != DIGEST_BYTES {
         return WRONG_LENGTH;
     }
-    let d = digest_sha256::digest(message);
-    c_headers::put_bytes(digest, &d);
+    digest.copy_from_slice(&digest_sha256::digest(message));
     0
 }
 
@@ -260,9 +259,8 @@ pub extern "C" fn tainhosa_next_tag(input: &[u8], at: usize, tag: &mut [u64]) ->
         return WRONG_LENGTH;
     }
     let look = header_tags::walk_on(input, at);
-    let row = c_headers::tag_row(look.found, look.next as u64);
-    c_headers::put_numbers(tag, &row);
-    numbers::refused_by(look.found).number
+    tag.copy_from_slice(&c_headers::tag_row(look.found, look.next as u64));
+    c_headers::of_tag(look.found)
 }
 
 // A power-up with at most `budget` operations.
@@ -293,7 +291,7 @@ pub extern "C" fn tainhosa_power_up(
         why.number as u64,
         why.place as u64,
     ];
-    c_headers::put_numbers(answer, &row);
+    answer.copy_from_slice(&row);
     ended.number
 }
 
@@ -314,8 +312,7 @@ pub extern "C" fn tainhosa_arm(
         return WRONG_LENGTH;
     }
     let a = exchange_commands::arm(sectors, size, boot, update, swap);
-    let row = [c_power_up::count_of(a)];
-    c_headers::put_numbers(count, &row);
+    count[0] = c_power_up::count_of(a);
     c_power_up::of_command(a)
 }
 
@@ -336,8 +333,7 @@ pub extern "C" fn tainhosa_confirm(
         return WRONG_LENGTH;
     }
     let a = exchange_commands::confirm(sectors, size, boot, update, swap);
-    let row = [c_power_up::count_of(a)];
-    c_headers::put_numbers(count, &row);
+    count[0] = c_power_up::count_of(a);
     c_power_up::of_command(a)
 }
 
@@ -358,8 +354,7 @@ pub extern "C" fn tainhosa_mend<'a>(
         return WRONG_LENGTH;
     }
     let a = mend::mend(sectors, size, boot, update, swap);
-    let row = c_mend::row_of(sectors, a);
-    c_headers::put_numbers(numbers, &row);
+    numbers.copy_from_slice(&c_mend::row_of(sectors, a));
     c_mend::of_mend(a)
 }
 
@@ -397,7 +392,7 @@ pub extern "C" fn tainhosa_power_up_counted(
         why.place as u64,
         a.total,
     ];
-    c_headers::put_numbers(answer, &numbers);
+    answer.copy_from_slice(&numbers);
     ended.number
 }
 
@@ -422,6 +417,6 @@ pub extern "C" fn tainhosa_arm_counted(
     let a = counts_arm::arm_counted(sectors, size, boot, update, swap, row, total);
     let command = a.answer;
     let numbers = [c_counts::count_of(command), a.total];
-    c_headers::put_numbers(answer, &numbers);
+    answer.copy_from_slice(&numbers);
     c_counts::of_command(command)
 }
