@@ -55,13 +55,13 @@ pub fn mend<'a>(
         MendRefusal::OutsideRules,
     )?;
     permit(geometry, boot, update)?;
-    let found = mending_search::first_fitting(FlashRef {
+    let flash = FlashRef {
         geometry,
         boot,
         update,
         swap,
-    });
-    let mark = found.ok_or(MendRefusal::NoMarkFits)?;
+    };
+    let mark = mending_search::first_fitting(&flash).ok_or(MendRefusal::NoMarkFits)?;
     let bytes = mending_flags::write_flags(geometry, update, mark);
     Ok(Mended { mark, bytes })
 }

@@ -26,8 +26,8 @@ returns-in_err-permit c =
     let p = err_from_is_err_and c.from_residual-in_err-permit.result c.from_residual-in_err-permit.ensures.1 in
     rw (p.1, p.2) (not_permitted a.sectors a.size (flash a.boot.now a.update.now a.swap.now) (ap code_answer c.in_ok-geometry.ensures.value ∙ asked c.check_flash.result ∙ c.check_flash.ensures) c.in_err-permit.ensures)
 
-pub invariant_of-first_fitting : goal.invariant_of-first_fitting
-invariant_of-first_fitting c =
+pub invariant_of-flash : goal.invariant_of-flash
+invariant_of-flash c =
     let a = c.args in
     record { shaped = flash_given_lem a.sectors a.size (flash a.boot.now a.update.now a.swap.now) _ (ap code_answer c.in_ok-geometry.ensures.value ∙ asked c.check_flash.result ∙ c.check_flash.ensures) }
 
@@ -37,10 +37,10 @@ returns-in_err-mark c =
     let p = err_from_is_err_and c.from_residual-in_err-mark.result c.from_residual-in_err-mark.ensures.1 in
     rw (p.1, p.2)
     (no_mark a.sectors a.size (flash a.boot.now a.update.now a.swap.now) (ap code_answer c.in_ok-geometry.ensures.value ∙ asked c.check_flash.result ∙ c.check_flash.ensures) c.in_ok-permit.ensures
-    (ap code_answer c.in_err-mark.ensures.value ∙ found_mark c.first_fitting-found.result ∙ c.first_fitting-found.ensures))
+    (ap code_answer c.in_err-mark.ensures.value ∙ found_mark c.first_fitting.result ∙ c.first_fitting.ensures))
 
 pub returns : goal.returns
 returns c =
     let a = c.args in
     mark_written a.sectors a.size (flash a.boot.now a.update.now a.swap.now) (ap code_answer c.in_ok-geometry.ensures.value ∙ asked c.check_flash.result ∙ c.check_flash.ensures) c.in_ok-permit.ensures _ _ _
-    (ap code_answer c.in_ok-mark.ensures.value ∙ found_mark c.first_fitting-found.result ∙ c.first_fitting-found.ensures) c.write_flags-bytes.ensures
+    (ap code_answer c.in_ok-mark.ensures.value ∙ found_mark c.first_fitting.result ∙ c.first_fitting.ensures) c.write_flags-bytes.ensures
