@@ -2,13 +2,14 @@
 use mathlib.Core.Path.{◌≡◌, refl, sym, ap, ◌∙◌}
 use mathlib.Core.List.{List}
 use Prim.Native.Nat.{ℕ}
+use Rattle.std.specs.Prelude.{sum}
 use Rattle.numbers.specs.Answer.{Answer, gives, refused}
 use Rattle.flash.specs.declared.Geometry.{Geometry}
 use Rattle.flash.specs.Sizes.{geometry}
 use Rattle.flash.specs.Buffers.{Flash, flash_of}
 use Rattle.flash.proofs.Answers.{flash_asked, flash_fits, flash_unfit}
 use Rattle.exchange.specs.declared.Operation.{Operation}
-use Rattle.counts.specs.Row.{raised, sum, check_row}
+use Rattle.counts.specs.Row.{raised, check_row}
 use Rattle.counts.specs.Calls.{Counted, check_counted, counted}
 use Rattle.counts.specs.Claims.{hands_back}
 use Rattle.counts.proofs.Claimed.{Taken, taken, where_it_fits, unfit}
