@@ -1,6 +1,5 @@
 -- The row along the steps: what it becomes by the steps that are left.
 use mathlib.Core.Path.{◌≡◌, refl, sym, ap, ap₂, ◌∙◌, subst}
-use mathlib.Core.Option.{Option, none, some}
 use mathlib.Core.List.{List, ◌∷◌}
 use Prim.Native.Nat.{ℕ, suc, ◌+◌, ◌-◌, ◌<◌}
 use native.Mathlib.Decide.{dec_lt}
@@ -32,9 +31,9 @@ abbrev pub row_to_come : Job → Geometry → Progress → Flash → List ℕ �
 row_to_come job g at f row = raised g (operations job g at.left at.phase f) row
 
 module _ (job : Job) (g : Geometry) where
-  module _ (budget : ℕ) (at : Progress) (f f' : Flash) (r : StepAnswer) (s : stepped r f' ≡ step job g at.phase f) (row row' : List ℕ) (c : row' ≡ raise_next g r.next row) where
+  module _ (budget : ℕ) (at : Progress) (f f' : Flash) (r : StepAnswer) (s : stepped r f' ≡ step job g at.phase f) (row row' : List ℕ) (c : row' ≡ raise_next g r.done row) where
     -- a turn
-    pub row_on : (o : Operation) → r.next ≡ Some o → r.progress ≡ progress_scanned g f'.update r.next at → 0 < at.left
+    pub row_on : (o : Operation) → r.done ≡ Some o → r.progress ≡ progress_scanned g f'.update r.done at → 0 < at.left
         → row_to_come job g r.progress f' row' ≡ row_to_come job g at f row
     row_on o e q h =
         let k : at.left ≡ suc (at.left - 1) = omega arith in
@@ -47,7 +46,7 @@ module _ (job : Job) (g : Geometry) where
         (sym (ap (λ (n : ℕ). operations job g n at.phase f) k ∙ operations_some job g (at.left - 1) at.phase f o (sym (next_is job g budget at f f' r s) ∙ e)))
 
     -- nothing is next
-    pub row_over : r.next ≡ None → row' ≡ row_to_come job g at f row
+    pub row_over : r.done ≡ None → row' ≡ row_to_come job g at f row
     row_over e =
         c ∙ ap (λ (t : Option Operation). raise_next g t row) e
         ∙ ap (λ (os : List Operation). raised g os row) (sym (operations_none job g at.left at.phase f (sym (next_is job g budget at f f' r s) ∙ e)))
@@ -59,8 +58,8 @@ module _ (job : Job) (g : Geometry) where
 
   -- a row that stays within 32 bits has room for the next erase
   room : (o : Operation) (os : List Operation) (row : List ℕ) → Within32 (raised g (o ∷ os) row) → (p : Option ℕ) → slot g o ≡ p → RoomFor p row
-  room o os row w none e = tt
-  room o os row w (some k) e = by (dec_lt k (length row))
+  room o os row w None e = tt
+  room o os row w (Some k) e = by (dec_lt k (length row))
     where
       by : Dec (k < length row) → get_or row k 0 < 4294967295
       by (yes b) =

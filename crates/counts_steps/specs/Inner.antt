@@ -23,4 +23,4 @@ RoomForNext g (Some o) row = RoomFor (slot g o) row
 -- The contract of `do_next_counted`: the single step, with its own contract, and the row raised by what this step did and by nothing else.
 pub record CountedSteps (job : Job) (g : Geometry) (at : Progress) (f : Flash) (row : List ℕ) (r : StepAnswer) (f' : Flash) (row' : List ℕ) : Type 0 where
   pub steps : Steps job g at f r f'
-  pub counts : row' ≡ raise_next g r.next row
+  pub counts : row' ≡ raise_next g r.done row

@@ -11,6 +11,6 @@ count_done-requires c =
     let f = a.f.now in
     let G = c.requires.0.limits in
     let s = c.do_next-step.ensures in
-    let e = sym s.step.found ∙ c.in-Do.is in
+    let e = sym s.step.found ∙ c.in-Some.is in
     rw s.same.geometry
     (G, next_within f.geometry G a.job a.at f.boot.now f.update.now _ c.requires.1 e, c.requires.3, subst (λ (m : Option Operation). RoomForNext f.geometry m a.row.now) e c.requires.4)
