@@ -4,10 +4,11 @@
 ghost use Rattle.std.specs.Prelude.{◌≡◌, ◌≤◌, ◌<◌, length, ltb, sum};
 ghost use Rattle.std.specs.List.{list_any};
 ghost use Rattle.flash.specs.Sizes.{Limits};
+ghost use Rattle.flash.specs.Buffers.{lent};
 ghost use Rattle.exchange_steps.specs.Inner.{SectorWithin};
 ghost use Rattle.counts.specs.Row.{row_length, row_place, slot, raise, check_row};
-ghost use Rattle.counts_row.specs.declared.RowFault.TheVariants.{Refused};
-ghost use Rattle.counts_row.specs.Inner.{row_says, RoomFor};
+ghost use Rattle.counts_row.specs.declared.CountsFault.TheVariants.{Row};
+ghost use Rattle.counts_row.specs.Inner.{counts_answer, counted_geometry, RoomFor};
 
 use exchange::{Area, Operation};
 use flash::{Geometry, SectorNumber};
@@ -15,18 +16,19 @@ use numbers::RowRefusal;
 
 // ---- the checks
 
-// Why a row or its total is not taken.
+// Why a counted call does nothing, by the checks that come first.
 #[derive(Clone, Copy, PartialEq, Eq)]
-pub enum RowFault {
-    OtherLength,
-    Refused(RowRefusal),
+pub enum CountsFault {
+    // Geometry or a length outside the rules, that of the row too.
+    OutsideRules,
+    Row(RowRefusal),
 }
 
-impl From<RowRefusal> for RowFault {
-    ghost from_gives = { λ r f. f ≡ Refused r };
+impl From<RowRefusal> for CountsFault {
+    ghost from_gives = { λ r f. f ≡ Row r };
 
-    fn from(refusal: RowRefusal) -> RowFault {
-        RowFault::Refused(refusal)
+    fn from(refusal: RowRefusal) -> CountsFault {
+        CountsFault::Row(refusal)
     }
 }
 
@@ -46,12 +48,12 @@ fn some_above(row: &[u32], limit: u32) -> bool
 }
 
 // The row's length; then its sum; then that each count has room for m erases.
-pub fn check_row(g: Geometry, row: &[u32], total: u64) -> Result<(), RowFault>
+fn check_row(g: Geometry, row: &[u32], total: u64) -> Result<(), CountsFault>
     requires { Limits g }
-    ensures { row_says result ≡ check_row g row.now total }
+    ensures { counts_answer result ≡ check_row g row.now total }
 {
     if row.len() != 2 * g.sectors + 1 {
-        return Err(RowFault::OtherLength);
+        return Err(CountsFault::OutsideRules);
     }
     if sum_of(row) != total {
         return Err(RowRefusal::TotalWrong.into());
@@ -60,6 +62,24 @@ pub fn check_row(g: Geometry, row: &[u32], total: u64) -> Result<(), RowFault>
         return Err(RowRefusal::CountTooHigh.into());
     }
     Ok(())
+}
+
+// The geometry of a counted call, where the checks that come first find nothing: geometry and lengths of the flash, then row and total.
+pub fn check_counted(
+    sectors: usize,
+    size: usize,
+    boot: &[u8],
+    update: &[u8],
+    swap: &[u8],
+    row: &[u32],
+    total: u64,
+) -> Result<Geometry, CountsFault>
+    ensures { counts_answer result
+        ≡ counted_geometry sectors size (lent boot.entry update.entry swap.entry) row.now total }
+{
+    let g = flash::check_flash(sectors, size, boot, update, swap).ok_or(CountsFault::OutsideRules)?;
+    check_row(g, row, total)?;
+    Ok(g)
 }
 
 // ---- one place for each erase
