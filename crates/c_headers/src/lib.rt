@@ -4,71 +4,37 @@
 ghost use Rattle.std.specs.Prelude.{◌≡◌, ◌++◌, length};
 ghost use Rattle.header_tags.specs.Walk.{item_of};
 ghost use Rattle.numbers.specs.GivenBack.{refusal_of};
-ghost use Rattle.c_headers.specs.Rows.{bit_of, header_numbers, bytes_of, tag_row, values_from};
+ghost use Rattle.c_headers.specs.Rows.{header_numbers, bytes_of, tag_row, values_from};
 
-use header_reader::Header;
-use header_tags::Tag;
+use header_reader::{Header, copy_bytes};
+use header_tags::{Tag, WalkRefusal};
+use numbers::Numbered;
 use output::put;
 
-pub fn of_tag(t: Tag) -> u32
-    ensures { result ≡ (refusal_of (item_of t)).number }
+// The number of a look at a tag: 0 where nothing is refused.
+pub fn of_tag(found: Result<Option<Tag>, WalkRefusal>) -> u32
+    ensures { result ≡ (refusal_of (item_of found)).number }
 {
-    match t {
-        Tag::Found {
-            place: _,
-            kind: _,
-            length: _,
-        } => 0,
-        Tag::End => 0,
-        Tag::TooShort => 16,
-        Tag::DoesNotFit(_) => 4,
-        Tag::NoEnd(_) => 7,
-    }
+    numbers::refused_by(found).number
 }
 
 // The row of a tag, behind the place of a refusal.
-pub fn tag_row(t: Tag, next: u64) -> [u64; 6]
-    ensures { result ≡ tag_row (item_of t) next }
+pub fn tag_row(found: Result<Option<Tag>, WalkRefusal>, next: u64) -> [u64; 6]
+    ensures { result ≡ tag_row (item_of found) next }
 {
-    match t {
-        Tag::Found {
-            place,
-            kind,
-            length,
-        } => [0, 1, place as u64, kind as u64, length as u64, next],
-        Tag::End => [0, 0, 0, 0, 0, next],
-        Tag::TooShort => [0, 0, 0, 0, 0, next],
-        Tag::DoesNotFit(p) => [p as u64, 0, 0, 0, 0, next],
-        Tag::NoEnd(p) => [p as u64, 0, 0, 0, 0, next],
+    match found {
+        Ok(
+            Some(
+                Tag {
+                    place,
+                    kind,
+                    length,
+                },
+            ),
+        ) => [0, 1, place as u64, kind as u64, length as u64, next],
+        Ok(None) => [0, 0, 0, 0, 0, next],
+        Err(refusal) => [refusal.refused().place as u64, 0, 0, 0, 0, next],
     }
-}
-
-pub fn of_bool(b: bool) -> u64
-    ensures { result ≡ bit_of b }
-{
-    if b { 1 } else { 0 }
-}
-
-// ---- rows
-
-// All of the values, into a row of as many places.
-pub fn put_numbers(row: &mut [u64], values: &[u64])
-    requires { length row.old ≡ length values.now }
-    ensures { row.new ≡ values.now }
-{
-    let mut i: usize = 0;
-    while i < row.len() {
-        row[i] = values[i];
-        i += 1;
-    }
-}
-
-// All of the bytes, into a buffer of as many.
-pub fn put_bytes(out: &mut [u8], b: &[u8])
-    requires { length out.old ≡ length b.now }
-    ensures { out.new ≡ b.now }
-{
-    put(out, 0, b);
 }
 
 // The digest, the signature and the hint, one behind another.
@@ -86,19 +52,15 @@ pub fn put_header(numbers: &mut [u64], bytes: &mut [u8], place: u64, v: Header)
     requires { (length numbers.old ≡ 6) × (length bytes.old ≡ 128) }
     ensures { (numbers.new ≡ header_numbers place v) × (bytes.new ≡ bytes_of v) }
 {
-    let row = [
+    numbers.copy_from_slice(&[
         place,
         v.size as u64,
         v.version as u64,
         v.timestamp,
         v.auth_type as u64,
-        of_bool(v.has_hint),
-    ];
-    put_numbers(numbers, &row);
-    let digest = v.digest;
-    let signature = v.signature;
-    let hint = v.hint;
-    put_parts(bytes, digest, signature, hint);
+        v.has_hint as u64,
+    ]);
+    put_parts(bytes, v.digest, v.signature, v.hint);
 }
 
 // The values of a header to write, of which 128 bytes are the digest, the signature and the hint.
@@ -113,17 +75,14 @@ pub fn header_from(
     requires { length bytes.now ≡ 128 }
     ensures { result ≡ values_from size version timestamp auth_type has_hint bytes.now }
 {
-    let digest = header_reader::copy_32(bytes, 0);
-    let signature = header_reader::copy_64(bytes, 32);
-    let hint = header_reader::copy_32(bytes, 96);
     Header {
         size,
         version,
         timestamp,
-        digest,
-        signature,
+        digest: copy_bytes(bytes, 0),
+        signature: copy_bytes(bytes, 32),
         auth_type,
         has_hint,
-        hint,
+        hint: copy_bytes(bytes, 96),
     }
 }

@@ -9,25 +9,9 @@ ghost use Rattle.mend.specs.Delivered.{mend_of};
 ghost use Rattle.c_mend.specs.Rows.{mend_row};
 
 use flash_flags::Flag;
-use mend::MendAnswer;
+use mend::Mended;
 use mending::Mark;
-
-// The byte x as a number of the row.
-fn wide(x: u8) -> u64
-    ensures { result ≡ x }
-{
-    x as u64
-}
-
-// How many firmware sectors there are; none where there is no sector.
-fn firmware_sectors(sectors: usize) -> usize
-    ensures { result ≡ sectors - 1 }
-{
-    if sectors == 0 {
-        return 0;
-    }
-    sectors - 1
-}
+use numbers::MendRefusal;
 
 // The sector by which a mark is named, of m firmware sectors.
 fn sector_of(m: usize, mark: Mark) -> u64
@@ -39,36 +23,37 @@ fn sector_of(m: usize, mark: Mark) -> u64
     }
 }
 
-// The flag by which it is named, by its value.
-fn flag_of(mark: Mark) -> u64
-    ensures { result ≡ flag_value (flag_named mark) }
+// The flag by which it is named.
+fn flag_of(mark: Mark) -> Flag
+    ensures { result ≡ flag_named mark }
 {
     match mark {
-        Mark::At(_, leg) => wide(leg.flag().value()),
-        Mark::All0 => wide(Flag::EXCHANGED),
+        Mark::At(_, leg) => leg.flag(),
+        Mark::All0 => Flag::Exchanged,
     }
 }
 
 // The refusal's number, 0 where flags were mended.
-pub fn of_mend(a: MendAnswer) -> u32
+pub fn of_mend(a: Result<Mended, MendRefusal>) -> u32
     ensures { result ≡ (refusal_of (mend_of a)).number }
 {
     match a {
-        MendAnswer::Mended { mark: _, bytes: _ } => 0,
-        MendAnswer::Refused(r) => numbers::of_mend(r),
+        Ok(_) => 0,
+        Err(refusal) => refusal.into(),
     }
 }
 
-// The mark's sector and flag, and the number of bytes that differ; zeros beside a refusal.
-pub fn row_of(sectors: usize, a: MendAnswer) -> [u64; 3]
+// The mark's sector and flag, and the number of bytes that differ; zeros beside a refusal. Where there is no sector, none is one of the
+// firmware's.
+pub fn row_of(sectors: usize, a: Result<Mended, MendRefusal>) -> [u64; 3]
     ensures { result ≡ mend_row (sectors - 1) (mend_of a) }
 {
     match a {
-        MendAnswer::Mended { mark, bytes } => {
-            let sector = sector_of(firmware_sectors(sectors), mark);
-            let flag = flag_of(mark);
-            [sector, flag, bytes as u64]
+        Ok(mended) => {
+            let sector = sector_of(sectors.saturating_sub(1), mended.mark);
+            let flag = u8::from(flag_of(mended.mark));
+            [sector, u64::from(flag), mended.bytes as u64]
         }
-        MendAnswer::Refused(_) => [0, 0, 0],
+        Err(_) => [0, 0, 0],
     }
 }

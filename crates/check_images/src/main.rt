@@ -2,6 +2,7 @@
 // copies of the first one with a byte changed.
 #![tactic(auto)]
 
+use numbers::{Numbered, Refused};
 use std::io::Read;
 use std::rt::Runtime;
 use std::{env, fs, io};
@@ -12,26 +13,18 @@ const SIZE: usize = 256;
 
 const PARTITION: usize = SECTORS * SIZE;
 
-fn print(rt: &impl Print, text: &str) -> io::Result<()> {
-    rt.print(text)
-}
-
-fn print_number(rt: &impl Print, label: &str, n: u64) -> io::Result<()> {
-    print!(rt; "{label}{n}")
-}
-
 // The answer of the check of a partition.
 fn print_check(rt: &impl Print, partition: [u8; PARTITION]) -> io::Result<()> {
-    let answer = image::check_image(SECTORS, SIZE, &partition);
-    let outcome = answer.outcome;
-    let refused = numbers::of_image(outcome);
-    if refused.number == 0 {
-        print_number(rt, "good, version ", answer.header.version as u64)?;
-    } else {
-        print_number(rt, "refused ", refused.number as u64)?;
-        print_number(rt, " at ", refused.place as u64)?;
+    match image::check_image(SECTORS, SIZE, &partition) {
+        Ok(header) => {
+            let version = header.version;
+            println!(rt; "good, version {version}")
+        }
+        Err(refusal) => {
+            let Refused { number, place } = refusal.refused();
+            println!(rt; "refused {number} at {place}")
+        }
     }
-    print(rt, "\n")
 }
 
 // The partition that begins with a file's bytes.
@@ -50,8 +43,7 @@ fn partition_of(rt: &impl Runtime, name: &str) -> io::Result<[u8; PARTITION]> {
 }
 
 fn check_argument(rt: &impl Runtime, name: &str) -> io::Result<()> {
-    print(rt, name)?;
-    print(rt, ": ")?;
+    print!(rt; "{name}: ")?;
     print_check(rt, partition_of(rt, name)?)
 }
 
@@ -64,31 +56,27 @@ fn print_damaged(
 ) -> io::Result<()> {
     if at < PARTITION {
         let mut damaged = partition;
-        damaged[at] = damaged[at] ^ mask;
-        print_number(rt, "byte ", at as u64)?;
-        print_number(rt, " changed by ", mask as u64)?;
-        print(rt, ": ")?;
+        damaged[at] ^= mask;
+        print!(rt; "byte {at} changed by {mask}: ")?;
         print_check(rt, damaged)?;
     }
     Ok(())
 }
 
 fn check_damaged(rt: &impl Print, partition: [u8; PARTITION], mask: u8) -> io::Result<()> {
-    for at in 0..264 {
+    for at in (0..264).chain([300, 511, 512, 767]) {
         print_damaged(rt, partition, at, mask)?;
     }
-    print_damaged(rt, partition, 300, mask)?;
-    print_damaged(rt, partition, 511, mask)?;
-    print_damaged(rt, partition, 512, mask)?;
-    print_damaged(rt, partition, 767, mask)
+    Ok(())
 }
 
 // Copies of the first file, damaged in several ways.
 fn check_first(rt: &impl Runtime, name: &str) -> io::Result<()> {
     let partition = partition_of(rt, name)?;
-    check_damaged(rt, partition, 1)?;
-    check_damaged(rt, partition, 128)?;
-    check_damaged(rt, partition, 255)
+    for mask in [1, 128, 255] {
+        check_damaged(rt, partition, mask)?;
+    }
+    Ok(())
 }
 
 fn main(rt: HostRuntime) -> io::Result<()> {

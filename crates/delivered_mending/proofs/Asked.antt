@@ -5,6 +5,7 @@ use mathlib.Core.List.{List, [], ◌∷◌}
 use Prim.Native.Nat.{ℕ}
 use native.Mathlib.Omega.{arith}
 use lib.Dec.{eqb}
+use Rattle.std.specs.Prelude.{Ok, Err}
 use Rattle.numbers.specs.Answer.{Answer, gives, refused}
 use Rattle.numbers.specs.GivenBack.{mend_number}
 use Rattle.numbers.specs.declared.MendRefusal.{MendRefusal}
@@ -28,9 +29,7 @@ use Rattle.mending.specs.Mending.{first_fitting, may_mend, found, Given, given, 
 use Rattle.exchange.specs.CommandsRuledOut.{outside_rules, status_not_allowed, wrong_time}
 use Rattle.mending.specs.Mended.{MayMend, MendRefusedFirst, MendNumber, as_arm, no_mark_fits}
 use Rattle.mending.proofs.Found.{found_by, mend_by, gives_first, gives_if_fits, seventeen_if_none, refuses_in_order, refuses_with, writes_flags, counts_bytes}
-use Rattle.mend.specs.declared.MendAnswer.{MendAnswer}
-use Rattle.mend.specs.declared.MendAnswer.TheVariants.{Mended, Refused}
-use Rattle.mend.specs.Delivered.{mend_of, mended, MendDelivers}
+use Rattle.mend.specs.Delivered.{MendAnswer, mended_with, mend_of, mended, MendDelivers}
 use Rattle.mend.proofs.Calls.{mend_new}
 use Rattle.delivered_mending.specs.Asked.{left_by, OtherPair, MarkWritten, EveryCallAsAsked}
 use Rattle.delivered_mending.specs.Called.{EveryMendCalled}
@@ -41,16 +40,16 @@ abbrev refusal_numbered : ℕ → MendRefusal
 refusal_numbered n = cond (eqb n 1) OutsideRules (cond (eqb n 10) StatusNotAllowed (cond (eqb n 14) WrongTime NoMarkFits))
 
 abbrev coded : Answer Given → MendAnswer
-coded (gives r) = Mended r.mark r.bytes
+coded (gives r) = mended_with r.mark r.bytes
 coded (refused n p) = Refused (refusal_numbered n)
 
 -- so an answer of the code is told by the rules' answer
 code_of : (a : MendAnswer) → coded (mend_of a) ≡ a
-code_of (Mended k n) = refl
-code_of (Refused OutsideRules) = refl
-code_of (Refused StatusNotAllowed) = refl
-code_of (Refused WrongTime) = refl
-code_of (Refused NoMarkFits) = refl
+code_of (Ok m) = refl
+code_of (Err OutsideRules) = refl
+code_of (Err StatusNotAllowed) = refl
+code_of (Err WrongTime) = refl
+code_of (Err NoMarkFits) = refl
 
 number_coded : {n : ℕ} (p : ℕ) → MendNumber n → p ≡ 0 → mend_of (coded (refused n p)) ≡ refused n p
 number_coded p (as_arm outside_rules) e = ap (refused 1) (sym e)
@@ -187,19 +186,19 @@ pub as_asked : EveryCallAsAsked
 as_asked n s f answer u d = record {
   written = written;
   where_one_fits = λ M j a F.
-      let r = gives_if_fits check_of (geometry n s) f j M a F in (r.0.mark, r.0.bytes, told (Mended r.0.mark r.0.bytes) r.1);
-  one = (λ e. only_1 check_of (geometry n s) f (says (Refused OutsideRules) e), λ h. told (Refused OutsideRules) ((R check_of (geometry n s) f).outside h));
+      let r = gives_if_fits check_of (geometry n s) f j M a F in (r.0.mark, r.0.bytes, told (mended_with r.0.mark r.0.bytes) r.1);
+  one = (λ e. only_1 check_of (geometry n s) f (says (Err OutsideRules) e), λ h. told (Err OutsideRules) ((R check_of (geometry n s) f).outside h));
   ten = (
-    λ e. only_10 check_of (geometry n s) f (says (Refused StatusNotAllowed) e),
-    λ h. told (Refused StatusNotAllowed) ((R check_of (geometry n s) f).status h.0 h.1),
+    λ e. only_10 check_of (geometry n s) f (says (Err StatusNotAllowed) e),
+    λ h. told (Err StatusNotAllowed) ((R check_of (geometry n s) f).status h.0 h.1),
   );
-  fourteen = (λ e. only_14 check_of (geometry n s) f (says (Refused WrongTime) e), λ o. told (Refused WrongTime) (pair_14 check_of (geometry n s) f o));
+  fourteen = (λ e. only_14 check_of (geometry n s) f (says (Err WrongTime) e), λ o. told (Err WrongTime) (pair_14 check_of (geometry n s) f o));
   seventeen = (
-    λ e. (seventeen_if_none check_of (geometry n s) f).0 (says (Refused NoMarkFits) e),
-    λ h. told (Refused NoMarkFits) ((seventeen_if_none check_of (geometry n s) f).1 h),
+    λ e. (seventeen_if_none check_of (geometry n s) f).0 (says (Err NoMarkFits) e),
+    λ h. told (Err NoMarkFits) ((seventeen_if_none check_of (geometry n s) f).1 h),
   );
   unchanged = λ r e.
-      ap (λ (y : Flash). y.update) (flash_is n s f answer u d ∙ (refuses_with check_of (geometry n s) f (mend_number r) 0 (says (Refused r) e)).2);
+      ap (λ (y : Flash). y.update) (flash_is n s f answer u d ∙ (refuses_with check_of (geometry n s) f (mend_number r) 0 (says (Err r) e)).2);
 }
   where
     says : (a : MendAnswer) → answer ≡ a → (mending check_of (geometry n s) f).answer ≡ mend_of a
@@ -208,9 +207,9 @@ as_asked n s f answer u d = record {
     told : (a : MendAnswer) → (mending check_of (geometry n s) f).answer ≡ mend_of a → answer ≡ a
     told a e = coded_answer n s f answer u d a e
 
-    written : (k : Mark) (bytes : ℕ) → answer ≡ Mended k bytes → MarkWritten (geometry n s) f k bytes (left_by f u)
+    written : (k : Mark) (bytes : ℕ) → answer ≡ mended_with k bytes → MarkWritten (geometry n s) f k bytes (left_by f u)
     written k bytes e =
-        let q : (mending check_of (geometry n s) f).answer ≡ gives (given k bytes) = says (Mended k bytes) e in
+        let q : (mending check_of (geometry n s) f).answer ≡ gives (given k bytes) = says (mended_with k bytes) e in
         let y = gives_first check_of (geometry n s) f k bytes q in
         subst (λ (z : Flash). MarkWritten (geometry n s) f k bytes z) (sym (flash_is n s f answer u d))
         (record { may = y.0; first = y.1; flags = writes_flags check_of (geometry n s) f k bytes q; counted = counts_bytes check_of (geometry n s) f k bytes q })

@@ -42,8 +42,7 @@ use Rattle.mending.specs.declared.Mark.{Mark}
 use Rattle.mending.specs.Marks.{moves_of}
 use Rattle.mending.specs.OldImages.{old_flash}
 use Rattle.mending.proofs.Found.{may_shaped, but_status}
-use Rattle.mend.specs.declared.MendAnswer.TheVariants.{Mended}
-use Rattle.mend.specs.Delivered.{MendDelivers}
+use Rattle.mend.specs.Delivered.{mended_with, MendDelivers}
 use Rattle.delivered.specs.Demand.{AllowedCalls}
 use Rattle.delivered.specs.Witness.{Called}
 use Rattle.delivered.proofs.Delivered.{reads_firmware}
@@ -160,7 +159,7 @@ begun g old f B a h v =
       counted = omega (arith, v.counted, closing_two B);
     }
 
-module _ (n s : ℕ) (f : Flash) (k : Mark) (bytes : ℕ) (u : List ℕ) (d : MendDelivers n s f (Mended k bytes) u) where
+module _ (n s : ℕ) (f : Flash) (k : Mark) (bytes : ℕ) (u : List ℕ) (d : MendDelivers n s f (mended_with k bytes) u) where
   abbrev g : Geometry
   g = geometry n s
 
@@ -171,7 +170,7 @@ module _ (n s : ℕ) (f : Flash) (k : Mark) (bytes : ℕ) (u : List ℕ) (d : Me
   moves = moves_of (firmware g) k
 
   W : MarkWritten g f k bytes (left_by f u)
-  W = (as_asked n s f (Mended k bytes) u d).written k bytes refl
+  W = (as_asked n s f (mended_with k bytes) u d).written k bytes refl
 
   G : Limits g
   G = (may_shaped W.may).limits

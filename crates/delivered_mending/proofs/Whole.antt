@@ -18,8 +18,7 @@ use Rattle.mending.specs.Mending.{given, Mend, mending}
 use Rattle.mending.specs.Mended.{MayMend, ButFlags, mark_of, ReadAs, GivesMark}
 use Rattle.mending.proofs.Found.{but_status, may_shaped, flags_not_read}
 use Rattle.mending.proofs.Whole.{mended_under_way, mends_once, spoiled_mends}
-use Rattle.mend.specs.declared.MendAnswer.TheVariants.{Mended}
-use Rattle.mend.specs.Delivered.{MendDelivers}
+use Rattle.mend.specs.Delivered.{mended_with, MendDelivers}
 use Rattle.delivered.specs.Demand.{CallEvent, Happens, seen, AllowedCalls}
 use Rattle.delivered.specs.Witness.{ruled}
 use Rattle.exchange.proofs.Seen.{at}
@@ -32,12 +31,12 @@ use Rattle.delivered_mending.proofs.Asked.{answer_is, flash_is, ruled_answer, co
 -- ---- demand 3 from the mended state
 
 -- the mended flash is an update under way, of the images that the mark shows
-pub call_under_way : (n s : ℕ) (f : Flash) (k : Mark) (bytes : ℕ) (u : List ℕ) → MendDelivers n s f (Mended k bytes) u
+pub call_under_way : (n s : ℕ) (f : Flash) (k : Mark) (bytes : ℕ) (u : List ℕ) → MendDelivers n s f (mended_with k bytes) u
     → Ongoing check_of update (geometry n s) (old_flash (geometry n s) k f) (left_by f u) (moves_of (firmware (geometry n s)) k)
 call_under_way n s f k bytes u d =
     subst (λ (y : Flash). Ongoing check_of update (geometry n s) (old_flash (geometry n s) k f) y (moves_of (firmware (geometry n s)) k))
-    (sym (flash_is n s f (Mended k bytes) u d))
-    (mended_under_way check_of (geometry n s) f k bytes (reads_firmware (geometry n s)) (ruled_answer n s f (Mended k bytes) u d (Mended k bytes) refl))
+    (sym (flash_is n s f (mended_with k bytes) u d))
+    (mended_under_way check_of (geometry n s) f k bytes (reads_firmware (geometry n s)) (ruled_answer n s f (mended_with k bytes) u d (mended_with k bytes) refl))
 
 pub demand_3_mended : Demand3Mended
 demand_3_mended n s f k bytes u d es h =
@@ -53,11 +52,11 @@ flags_have_no_say n s f f' E a a' u u' d d' =
 
 pub mended_once : MendedOnce
 mended_once n s f k bytes u d a u' d' =
-    let e : left_by f u ≡ (mending check_of (geometry n s) f).flash = flash_is n s f (Mended k bytes) u d in
+    let e : left_by f u ≡ (mending check_of (geometry n s) f).flash = flash_is n s f (mended_with k bytes) u d in
     let q : mending check_of (geometry n s) (left_by f u) ≡ record { answer = gives (given k 0); flash = left_by f u } =
     subst (λ (y : Flash). mending check_of (geometry n s) y ≡ record { answer = gives (given k 0); flash = y }) (sym e)
-    (mends_once check_of (geometry n s) f k bytes (reads_firmware (geometry n s)) (ruled_answer n s f (Mended k bytes) u d (Mended k bytes) refl)) in (
-      coded_answer n s (left_by f u) a u' d' (Mended k 0) (ap (λ (r : Mend). r.answer) q),
+    (mends_once check_of (geometry n s) f k bytes (reads_firmware (geometry n s)) (ruled_answer n s f (mended_with k bytes) u d (mended_with k bytes) refl)) in (
+      coded_answer n s (left_by f u) a u' d' (mended_with k 0) (ap (λ (r : Mend). r.answer) q),
       ap (λ (y : Flash). y.update) (flash_is n s (left_by f u) a u' d' ∙ ap (λ (r : Mend). r.flash) q),
     )
 
@@ -93,7 +92,7 @@ spoiled_call_mends n s f₀ starts es h f E M answer u d = by (list_as_ruled (ge
     gave whole e w = record {
       mark = w.gave.mark;
       bytes = w.gave.bytes;
-      answers = coded_answer n s f answer u d (Mended w.gave.mark w.gave.bytes) w.answers;
+      answers = coded_answer n s f answer u d (mended_with w.gave.mark w.gave.bytes) w.answers;
       lost = w.lost;
       among = w.among;
       shown = subst (λ (y : Flash). ReadAs (geometry n s) y w.lost) (sym e) w.shown;

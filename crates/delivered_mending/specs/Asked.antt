@@ -1,6 +1,6 @@
 -- Document 02, "Mend lost flags", of the delivered call: what a call of `mend` gives that gave what its contract says (`MendDelivers`). The
 -- image check is the delivered one, `check_of`; the rules of marks and old images are those of `mending`.
-use Rattle.std.specs.Prelude.{◌≡◌, ◌↔◌, true, false, List, ℕ}
+use Rattle.std.specs.Prelude.{◌≡◌, ◌↔◌, true, false, List, ℕ, Err}
 use Rattle.numbers.specs.Answer.{gives}
 use Rattle.numbers.specs.declared.MendRefusal.{MendRefusal}
 use Rattle.numbers.specs.declared.MendRefusal.TheVariants.{OutsideRules, StatusNotAllowed, WrongTime, NoMarkFits}
@@ -17,9 +17,7 @@ use Rattle.mending.specs.declared.Mark.{Mark}
 use Rattle.mending.specs.Marks.{Among}
 use Rattle.mending.specs.OldImages.{Fits}
 use Rattle.mending.specs.Mended.{MayMend, FirstToFit, NoneFits, OnlyFlags, bytes_differing, ButFlags, mark_of}
-use Rattle.mend.specs.declared.MendAnswer.{MendAnswer}
-use Rattle.mend.specs.declared.MendAnswer.TheVariants.{Mended, Refused}
-use Rattle.mend.specs.Delivered.{mend_of, MendDelivers}
+use Rattle.mend.specs.Delivered.{MendAnswer, mended_with, mend_of, MendDelivers}
 
 -- The flash after a call that was lent f and left UPDATE's bytes u: BOOT and SWAP are lent for reading.
 abbrev pub left_by : Flash → List ℕ → Flash
@@ -49,17 +47,17 @@ pub record MarkWritten (g : Geometry) (f : Flash) (k : Mark) (bytes : ℕ) (f' :
 -- All that the request says of one call, which was lent the flash f, answered so and left UPDATE's bytes u.
 pub record MendsAsAsked (g : Geometry) (f : Flash) (answer : MendAnswer) (u : List ℕ) : Type 0 where
   -- an answer with a mark
-  pub written : (k : Mark) (bytes : ℕ) → answer ≡ Mended k bytes → MarkWritten g f k bytes (left_by f u)
+  pub written : (k : Mark) (bytes : ℕ) → answer ≡ mended_with k bytes → MarkWritten g f k bytes (left_by f u)
   -- it comes wherever some mark fits
-  pub where_one_fits : MayMend g f → (j : Mark) → Among (firmware g) j → Fits check_of g f j → (k : Mark) × (bytes : ℕ) × (answer ≡ Mended k bytes)
+  pub where_one_fits : MayMend g f → (j : Mark) → Among (firmware g) j → Fits check_of g f j → (k : Mark) × (bytes : ℕ) × (answer ≡ mended_with k bytes)
   -- "Refusals: 1, 10, 14 for another status pair": each one exactly there
-  pub one : (answer ≡ Refused OutsideRules) ↔ (fits g f ≡ false)
-  pub ten : (answer ≡ Refused StatusNotAllowed) ↔ ((fits g f ≡ true) × StatusBad g f)
-  pub fourteen : (answer ≡ Refused WrongTime) ↔ OtherPair g f
+  pub one : (answer ≡ Err OutsideRules) ↔ (fits g f ≡ false)
+  pub ten : (answer ≡ Err StatusNotAllowed) ↔ ((fits g f ≡ true) × StatusBad g f)
+  pub fourteen : (answer ≡ Err WrongTime) ↔ OtherPair g f
   -- "then new 17, exactly if no mark fits"
-  pub seventeen : (answer ≡ Refused NoMarkFits) ↔ (MayMend g f × NoneFits check_of g f)
+  pub seventeen : (answer ≡ Err NoMarkFits) ↔ (MayMend g f × NoneFits check_of g f)
   -- a refusal changes no byte
-  pub unchanged : (r : MendRefusal) → answer ≡ Refused r → u ≡ f.update
+  pub unchanged : (r : MendRefusal) → answer ≡ Err r → u ≡ f.update
 
 -- For every call: any numbers of sectors and of bytes, any flash.
 abbrev pub EveryCallAsAsked : Type 0
@@ -75,5 +73,5 @@ FlagsHaveNoSay =
 -- What one call has mended, another finds mended: the same mark, no byte that differs, none that changes.
 abbrev pub MendedOnce : Type 0
 MendedOnce =
-    (n s : ℕ) (f : Flash) (k : Mark) (bytes : ℕ) (u : List ℕ) → MendDelivers n s f (Mended k bytes) u → (a : MendAnswer) (u' : List ℕ)
-    → MendDelivers n s (left_by f u) a u' → (a ≡ Mended k 0) × (u' ≡ u)
+    (n s : ℕ) (f : Flash) (k : Mark) (bytes : ℕ) (u : List ℕ) → MendDelivers n s f (mended_with k bytes) u → (a : MendAnswer) (u' : List ℕ)
+    → MendDelivers n s (left_by f u) a u' → (a ≡ mended_with k 0) × (u' ≡ u)

@@ -11,9 +11,7 @@ use Rattle.exchange.specs.LostPower.{Torn}
 use Rattle.exchange.specs.Demand.{update, Finished, Event, untorn, lost, flash_after, most}
 use Rattle.mending.specs.declared.Mark.{Mark}
 use Rattle.mending.specs.Marks.{moves_of}
-use Rattle.mend.specs.declared.MendAnswer.{MendAnswer}
-use Rattle.mend.specs.declared.MendAnswer.TheVariants.{Mended}
-use Rattle.mend.specs.Delivered.{MendDelivers}
+use Rattle.mend.specs.Delivered.{MendAnswer, mended_with, MendDelivers}
 use Rattle.power_up.specs.declared.PowerUpAnswer.{PowerUpAnswer}
 use Rattle.power_up.specs.Delivered.{Delivers}
 use Rattle.delivered.specs.Demand.{seen, AllowedCalls}
@@ -43,7 +41,7 @@ pub record FinishCalled (g : Geometry) (f : Flash) (es : List Event) : Type 0 wh
 -- first of the closing operations.
 abbrev pub MendedFinishes : Type 0
 MendedFinishes =
-    (n s : ℕ) (f : Flash) (k : Mark) (bytes : ℕ) (u : List ℕ) → MendDelivers n s f (Mended k bytes) u → (j : ℕ)
+    (n s : ℕ) (f : Flash) (k : Mark) (bytes : ℕ) (u : List ℕ) → MendDelivers n s f (mended_with k bytes) u → (j : ℕ)
     → j + 3 * moves_of (firmware (geometry n s)) k ≤ 9 * firmware (geometry n s) → (t : Torn) → length t.bytes ≡ s → (budget : ℕ)
     → most update (firmware (geometry n s)) + 2 ≤ budget → FinishCalled (geometry n s) (left_by f u) (broken_off (geometry n s) j t budget)
 
@@ -51,7 +49,7 @@ MendedFinishes =
 -- operations less than 9m + 3 for each move that the mended flags have behind them, and no fewer.
 abbrev pub MendedBoundReached : Type 0
 MendedBoundReached =
-    (n s : ℕ) (f : Flash) (k : Mark) (bytes : ℕ) (u : List ℕ) → MendDelivers n s f (Mended k bytes) u
+    (n s : ℕ) (f : Flash) (k : Mark) (bytes : ℕ) (u : List ℕ) → MendDelivers n s f (mended_with k bytes) u
     → boot_status_at (geometry n s) f.boot ≡ gives Success → (budget : ℕ) → most update (firmware (geometry n s)) ≤ budget → (answer : PowerUpAnswer)
     (f' : Flash) → Delivers n s (left_by f u) budget answer f'
     → answer.count + 3 * moves_of (firmware (geometry n s)) k ≡ most update (firmware (geometry n s))

@@ -8,8 +8,7 @@ use Rattle.image.specs.Verdict.{check_of}
 use Rattle.mending.specs.declared.Mark.{Mark}
 use Rattle.mending.specs.Marks.{moves_of}
 use Rattle.mending.specs.OldImages.{old_flash}
-use Rattle.mend.specs.declared.MendAnswer.TheVariants.{Mended}
-use Rattle.mend.specs.Delivered.{MendDelivers}
+use Rattle.mend.specs.Delivered.{mended_with, MendDelivers}
 use Rattle.delivered.specs.Demand.{CallEvent, seen, AllowedCalls}
 use Rattle.delivered_mending.specs.Asked.{left_by}
 
@@ -17,6 +16,6 @@ use Rattle.delivered_mending.specs.Asked.{left_by}
 -- the mended flags have behind them." In `Safe` the old sectors are those of `old_flash`, and its bound counts the mark's moves three times.
 abbrev pub Demand3Mended : Type 0
 Demand3Mended =
-    (n s : ℕ) (f : Flash) (k : Mark) (bytes : ℕ) (u : List ℕ) → MendDelivers n s f (Mended k bytes) u → (es : List CallEvent)
+    (n s : ℕ) (f : Flash) (k : Mark) (bytes : ℕ) (u : List ℕ) → MendDelivers n s f (mended_with k bytes) u → (es : List CallEvent)
     → AllowedCalls update (geometry n s) (left_by f u) es
     → Safe check_of seen update (geometry n s) (old_flash (geometry n s) k f) (left_by f u) (moves_of (firmware (geometry n s)) k) es

@@ -10,16 +10,14 @@ use Rattle.image.specs.Verdict.{check_of}
 use Rattle.mending.specs.declared.Mark.{Mark}
 use Rattle.mending.specs.Marks.{Among, moves_of}
 use Rattle.mending.specs.Mended.{MayMend, ButFlags, ReadAs}
-use Rattle.mend.specs.declared.MendAnswer.{MendAnswer}
-use Rattle.mend.specs.declared.MendAnswer.TheVariants.{Mended}
-use Rattle.mend.specs.Delivered.{MendDelivers}
+use Rattle.mend.specs.Delivered.{MendAnswer, mended_with, MendDelivers}
 use Rattle.delivered.specs.Demand.{CallEvent, seen, AllowedCalls}
 
 -- The answer is a mark, and no later one than the flags showed before they were lost, in the flash `whole`.
 pub record GaveMark (g : Geometry) (whole : Flash) (answer : MendAnswer) : Type 0 where
   pub mark : Mark
   pub bytes : ℕ
-  pub answers : answer ≡ Mended mark bytes
+  pub answers : answer ≡ mended_with mark bytes
   pub lost : Mark
   pub among : Among (firmware g) lost
   pub shown : ReadAs g whole lost

@@ -1,6 +1,6 @@
 -- A printer whose flags are mended, three sectors of 256 with real headers and digests: an update is stopped, its flag byte is spoiled, a call of
 -- `mend` finds a mark, and calls of `power_up` bring the update to its finish.
-use Rattle.std.specs.Prelude.{◌≡◌, List, [], ◌∷◌, ◌++◌, ℕ, ◌≤◌, ◌<◌, length, replicate}
+use Rattle.std.specs.Prelude.{◌≡◌, List, [], ◌∷◌, ◌++◌, ℕ, ◌≤◌, ◌<◌, length, replicate, Err}
 use Rattle.header_writer.specs.Writing.{header_bytes}
 use Rattle.flash.specs.Sectors.{sector_number}
 use Rattle.flash.specs.Buffers.{Flash, flash}
@@ -17,8 +17,7 @@ use Rattle.numbers.specs.declared.MendRefusal.TheVariants.{WrongTime, NoMarkFits
 use Rattle.numbers.specs.declared.TurnDownReason.TheVariants.{None}
 use Rattle.mending.specs.declared.Mark.TheVariants.{At}
 use Rattle.mending.specs.Mended.{ButFlags}
-use Rattle.mend.specs.declared.MendAnswer.TheVariants.{Mended, Refused}
-use Rattle.mend.specs.Delivered.{MendDelivers}
+use Rattle.mend.specs.Delivered.{mended_with, MendDelivers}
 use Rattle.power_up.specs.declared.Outcome.TheVariants.{Cut}
 use Rattle.power_up.specs.declared.PowerUpAnswer.{PowerUpAnswer}
 use Rattle.power_up.specs.Delivered.{Delivers}
@@ -49,10 +48,10 @@ header_gone = flash (image_partition 7 0x00) (update_with (replicate 256 0xFF) 0
 -- What the calls give, computed down to the digests.
 pub record CallsGive : Type 0 where
   -- the flag byte holds 5A: the first mark that fits is sector 0 at 7, one move before the leg that was lost; one byte differs
-  pub mends : MendDelivers 3 256 (stopped 0x5A 0x00) (Mended (At (sector_number 0) BootToUpdate) 1) (stopped 0xF7 0x00).update
+  pub mends : MendDelivers 3 256 (stopped 0x5A 0x00) (mended_with (At (sector_number 0) BootToUpdate) 1) (stopped 0xF7 0x00).update
   -- 14: BOOT is TESTING; 17: no mark fits. Both leave UPDATE as it was
-  pub testing : MendDelivers 3 256 (stopped 0x5A 0x10) (Refused WrongTime) (stopped 0x5A 0x10).update
-  pub none : MendDelivers 3 256 header_gone (Refused NoMarkFits) header_gone.update
+  pub testing : MendDelivers 3 256 (stopped 0x5A 0x10) (Err WrongTime) (stopped 0x5A 0x10).update
+  pub none : MendDelivers 3 256 header_gone (Err NoMarkFits) header_gone.update
   -- the power-up before the flag byte was lost
   pub stops : Delivers 3 256 armed 6 six_done (stopped 0xF3 0x00)
   -- the mended update goes on with an erase and a copy

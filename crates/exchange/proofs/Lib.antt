@@ -1,7 +1,6 @@
 -- Laws of the rules, for the proofs of this crate and of those above it.
--- What is next and what is decided, by what is read; the statuses; runs of steps; lists of calls
+-- What is next and what is decided, by what is read; runs of steps; lists of calls
 pub mod Orders
-pub mod Statuses
 pub mod Runs
 pub mod Along
 pub mod Seen

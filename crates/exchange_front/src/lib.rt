@@ -39,20 +39,10 @@ fn front_after(op: Operation, front: SectorNumber) -> SectorNumber
     requires { front.0 < most_sectors }
     ensures { result ≡ sector_number (front_after op front.0) }
 {
-    let following = SectorNumber(front.0 + 1);
     match op {
-        Operation::WriteFlag(_, flag) => match flag {
-            Flag::Untouched => front,
-            Flag::Saved => front,
-            Flag::Moved => front,
-            Flag::Exchanged => following,
-        },
+        Operation::WriteFlag(_, Flag::Exchanged) => SectorNumber(front.0 + 1),
         Operation::EraseUpdateTrailer => SectorNumber(0),
-        Operation::Erase(_, _) => front,
-        Operation::Copy(_, _) => front,
-        Operation::EraseBootTrailer => front,
-        Operation::WriteBootStatus(_) => front,
-        Operation::WriteUpdateStatus(_) => front,
+        _ => front,
     }
 }
 

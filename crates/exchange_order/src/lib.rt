@@ -50,11 +50,7 @@ pub fn phase_after(op: Operation) -> u8
     match op {
         Operation::Erase(_, _) => 1,
         Operation::Copy(_, _) => 2,
-        Operation::WriteFlag(_, _) => 0,
-        Operation::EraseBootTrailer => 0,
-        Operation::EraseUpdateTrailer => 0,
-        Operation::WriteBootStatus(_) => 0,
-        Operation::WriteUpdateStatus(_) => 0,
+        _ => 0,
     }
 }
 
@@ -83,53 +79,6 @@ fn next_of_exchange(phase: u8, flags: Flags, last: Operation) -> Option<Operatio
     }
 }
 
-fn next_of_update(
-    phase: u8,
-    boot: BootStatus,
-    update: UpdateStatus,
-    flags: Flags,
-) -> Option<Operation>
-    ensures { result ≡ ordered Job.Update phase boot update flags }
-{
-    match update {
-        UpdateStatus::Updating => next_of_exchange(phase, flags, closing_operation(boot)),
-        UpdateStatus::New => None,
-    }
-}
-
-fn next_of_fallback(
-    phase: u8,
-    boot: BootStatus,
-    update: UpdateStatus,
-    flags: Flags,
-) -> Option<Operation>
-    ensures { result ≡ ordered Job.Fallback phase boot update flags }
-{
-    match boot {
-        BootStatus::Testing => next_of_exchange(
-            phase,
-            flags,
-            Operation::WriteBootStatus(BootStatus::Success),
-        ),
-        BootStatus::New => None,
-        BootStatus::Success => None,
-    }
-}
-
-fn next_of_turning_down(
-    phase: u8,
-    boot: BootStatus,
-    update: UpdateStatus,
-    flags: Flags,
-) -> Option<Operation>
-    ensures { result ≡ ordered Job.TurnDown phase boot update flags }
-{
-    match update {
-        UpdateStatus::Updating => Some(Operation::EraseUpdateTrailer),
-        UpdateStatus::New => None,
-    }
-}
-
 // The operation that a job orders next, by the two statuses and the flags.
 pub fn next_operation(
     job: Job,
@@ -140,9 +89,16 @@ pub fn next_operation(
 ) -> Option<Operation>
     ensures { result ≡ ordered job phase boot update flags }
 {
-    match job {
-        Job::Update => next_of_update(phase, boot, update, flags),
-        Job::Fallback => next_of_fallback(phase, boot, update, flags),
-        Job::TurnDown => next_of_turning_down(phase, boot, update, flags),
+    match (job, boot, update) {
+        (Job::Update, _, UpdateStatus::Updating) => {
+            next_of_exchange(phase, flags, closing_operation(boot))
+        }
+        (Job::Fallback, BootStatus::Testing, _) => next_of_exchange(
+            phase,
+            flags,
+            Operation::WriteBootStatus(BootStatus::Success),
+        ),
+        (Job::TurnDown, _, UpdateStatus::Updating) => Some(Operation::EraseUpdateTrailer),
+        _ => None,
     }
 }

@@ -22,6 +22,22 @@ use Rattle.header_places.specs.Table.{TagTable}
 use Rattle.header_places.specs.Judging.{row_of, judge, places_in}
 use Rattle.header_places.proofs.RuledOut.{other_tag, critical_tag, length_tag, repeated_tag, taken_tag}
 
+-- a place n that is told if it is below k
+module _ (n k : ℕ) where
+  told_is : {r : ℕ} → Some r ≡ cond (ltb n k) (Some n) None → (r ≡ n) × (r < k)
+  told_is {r} e = go (ltb n k) refl e
+    where
+      go : (b : Bool) → ltb n k ≡ b → Some r ≡ cond b (Some n) None → (r ≡ n) × (r < k)
+      go true d e = let i : r ≡ n = cc in (i, omega (arith, ltb-true n k d))
+      go false d e = let z : ◌≡◌ {A = ℕ} 0 1 = cc in absurd (omega arith)
+
+  none_is : None ≡ cond (ltb n k) (Some n) None → k ≤ n
+  none_is e = go (ltb n k) refl e
+    where
+      go : (b : Bool) → ltb n k ≡ b → None ≡ cond b (Some n) None → k ≤ n
+      go true d e = let z : ◌≡◌ {A = ℕ} 0 1 = cc in absurd (omega arith)
+      go false d e = ltb-false n k d
+
 -- what the code tells of a row: where it found one, and where it found none
 module _ (l : List ℕ) (x : ℕ) where
   row_first : row_of l x ≡ position_or_len (λ (y : ℕ). y == x) l
@@ -33,20 +49,10 @@ module _ (l : List ℕ) (x : ℕ) where
       go false n = omega arith
 
   pub row_is : {r : ℕ} → Some r ≡ position (λ (y : ℕ). y == x) l → (r ≡ row_of l x) × (r < length l)
-  row_is {r} e = rw row_first (go (ltb (position_or_len (λ (y : ℕ). y == x) l) (length l)) refl e)
-    where
-      go : (b : Bool) → ltb (position_or_len (λ (y : ℕ). y == x) l) (length l) ≡ b → Some r ≡ cond b (Some (position_or_len (λ (y : ℕ). y == x) l)) None
-          → (r ≡ position_or_len (λ (y : ℕ). y == x) l) × (r < length l)
-      go true d e = let i : r ≡ position_or_len (λ (y : ℕ). y == x) l = cc in (i, omega (arith, ltb-true _ _ d))
-      go false d e = let z : ◌≡◌ {A = ℕ} 0 1 = cc in absurd (omega arith)
+  row_is e = rw row_first (told_is _ _ e)
 
   pub no_row : None ≡ position (λ (y : ℕ). y == x) l → length l ≤ row_of l x
-  no_row e = rw row_first (go (ltb (position_or_len (λ (y : ℕ). y == x) l) (length l)) refl e)
-    where
-      go : (b : Bool) → ltb (position_or_len (λ (y : ℕ). y == x) l) (length l) ≡ b → None ≡ cond b (Some (position_or_len (λ (y : ℕ). y == x) l)) None
-          → length l ≤ position_or_len (λ (y : ℕ). y == x) l
-      go true d e = let z : ◌≡◌ {A = ℕ} 0 1 = cc in absurd (omega arith)
-      go false d e = ltb-false _ _ d
+  no_row e = rw row_first (none_is _ _ e)
 
 -- From the place `at` on, with the places seen, the answer is O. A record, so that the laws below take its parameters implicitly.
 pub record Goes (T : TagTable) (seen h : List ℕ) (at : ℕ) (O : Answer (List ℕ)) : Type 0 where

@@ -36,9 +36,11 @@ pub fn find_places(h: &[u8], table: TagTable) -> Result<[usize; ROWS], HeaderRef
     requires { table.required ≤ 6 }
     ensures { header_answer result ≡ places_in (table_of table) h.now }
 {
-    let types = table.types;
-    let lengths = table.lengths;
-    let required = table.required;
+    let TagTable {
+        types,
+        lengths,
+        required,
+    } = table;
     let mut places = [0usize; ROWS];
     let mut at = header_tags::FIRST_TAG;
     while let Some(tag) = header_tags::read_tag(h, at)? {

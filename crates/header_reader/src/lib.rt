@@ -62,18 +62,18 @@ impl Header {
 }
 
 // The table of tags: the types, the lengths of their values, and how many of the rows, from the first on, are required.
-const TYPES: [usize; ROWS] = [
-    Header::VERSION,
-    Header::TIMESTAMP,
-    Header::DIGEST,
-    Header::SIGNATURE,
-    Header::AUTH_TYPE,
-    Header::HINT,
-];
-
-const LENGTHS: [usize; ROWS] = [4, 8, 32, 64, 2, 32];
-
-const REQUIRED: usize = 5;
+const TABLE: TagTable = TagTable {
+    types: [
+        Header::VERSION,
+        Header::TIMESTAMP,
+        Header::DIGEST,
+        Header::SIGNATURE,
+        Header::AUTH_TYPE,
+        Header::HINT,
+    ],
+    lengths: [4, 8, 32, 64, 2, 32],
+    required: 5,
+};
 
 // The N bytes at a place.
 pub fn copy_bytes<const N: usize>(h: &[u8], at: usize) -> [u8; N]
@@ -150,12 +150,7 @@ pub fn locate(s: &[u8]) -> Result<[usize; ROWS], HeaderRefusal>
     if read_u32(h, 4) == 0 {
         return Err(HeaderRefusal::WrongSize);
     }
-    let table = TagTable {
-        types: TYPES,
-        lengths: LENGTHS,
-        required: REQUIRED,
-    };
-    header_places::find_places(h, table)
+    header_places::find_places(h, TABLE)
 }
 
 // Reads the header in the first 256 bytes of a lent buffer.

@@ -1,12 +1,11 @@
 -- What was read can be written, and reads back. Assumes nothing.
 use mathlib.Core.Path.{◌≡◌, refl}
-use Prim.Native.Nat.{ℕ, ◌+◌, ◌≤◌, ◌<◌}
+use Prim.Native.Nat.{ℕ, ◌+◌, ◌≤◌}
 use mathlib.Core.List.{List}
 use mathlib.Core.Bool.{Bool, true, false, cond, not}
 use native.Mathlib.Omega.{arith}
-use native.Mathlib.Decide.{dec_lt}
-use lib.ListN.{length, get_or, take, replicate, length-take, get_or-eq_default}
-use lib.Seq.{length-take-le, get_or-take}
+use lib.ListN.{length, get_or, take, replicate}
+use lib.Seq.{length-take-le}
 use lib.Dec.{eqb, lit<}
 use Rattle.numbers.specs.Answer.{gives}
 use Rattle.header_tags.specs.Bytes.{AllBytes, number}
@@ -15,25 +14,11 @@ use Rattle.header_places.specs.Judging.{places_in}
 use Rattle.header_places.proofs.Fitting.{found_within}
 use Rattle.header_reader.specs.declared.Header.{Header}
 use Rattle.header_reader.specs.Reading.{bytes_at, values_at, read_header}
-use Rattle.header_reader.proofs.BytesAt.{length_part, part_below}
+use Rattle.header_reader.proofs.BytesAt.{length_part, part_bytes, part_below}
 use Rattle.header_reader.proofs.Answers.{located, places_taken}
 use Rattle.header_writer.specs.Writing.{write_header}
 use Rattle.header_round_trips.specs.RoundTrips.{Holdable, carried_hint, carried, RoundTrip, ReadIsHoldable, ReadWriteRead}
 use Rattle.header_round_trips.proofs.Back.{write_then_read}
-
--- what an accepted header tells
-record Came (s : List ℕ) (v : Header) : Type 0 where
-  l : List ℕ
-  room : 256 ≤ length s
-  some : number (bytes_at (take 256 s) 4 4) ≡ 0 → ⊥
-  found : places_in document_table (take 256 s) ≡ gives l
-  is : v ≡ values_at (take 256 s) l
-
-came : (s : List ℕ) (v : Header) → read_header s ≡ gives v → Came s v
-came s v e =
-    let t = places_taken s v e in
-    let w = located s t.places t.found in
-    record { l = t.places; room = w.room; some = w.some; found = w.found; is = t.is }
 
 hint_length : (h : List ℕ) (p : ℕ) (b : Bool) → p + 4 + 32 ≤ length h → length (cond b (replicate 32 0) (bytes_at h (p + 4) 32)) ≡ 32
 hint_length h p true fits = refl
@@ -47,12 +32,8 @@ module _ (s : List ℕ) (bytes : AllBytes s) where
   abbrev h : List ℕ
   h = take 256 s
 
-  header_bytes_lem : (i : ℕ) → get_or h i 0 < 256
-  header_bytes_lem i = go (dec_lt i 256)
-    where
-      go : Dec (i < 256) → get_or h i 0 < 256
-      go (yes lt) = rw (get_or-take 256 s i 0 lt) (bytes i)
-      go (no ge) = rw (get_or-eq_default h 0 {n = i} (omega (arith, length-take 256 s))) (lit< tt)
+  all_bytes : AllBytes h
+  all_bytes = part_bytes s bytes 0 256
 
   holdable : (l : List ℕ) → 256 ≤ length s → (number (bytes_at h 4 4) ≡ 0 → ⊥) → places_in document_table h ≡ gives l → Holdable (values_at h l)
   holdable l room some found =
@@ -60,10 +41,10 @@ module _ (s : List ℕ) (bytes : AllBytes s) where
       let w = found_within h l (omega arith) found in
       record {
         some = some;
-        size = part_below h header_bytes_lem 4 4 (omega arith);
-        version = part_below h header_bytes_lem (get_or l 0 0 + 4) 4 (w.fits 0 (lit< tt));
-        timestamp = part_below h header_bytes_lem (get_or l 1 0 + 4) 8 (w.fits 1 (lit< tt));
-        auth_type = part_below h header_bytes_lem (get_or l 4 0 + 4) 2 (w.fits 4 (lit< tt));
+        size = part_below h all_bytes 4 4 (omega arith);
+        version = part_below h all_bytes (get_or l 0 0 + 4) 4 (w.fits 0 (lit< tt));
+        timestamp = part_below h all_bytes (get_or l 1 0 + 4) 8 (w.fits 1 (lit< tt));
+        auth_type = part_below h all_bytes (get_or l 4 0 + 4) 2 (w.fits 4 (lit< tt));
         digest = length_part h (get_or l 2 0 + 4) 32 (w.fits 2 (lit< tt));
         signature = length_part h (get_or l 3 0 + 4) 64 (w.fits 3 (lit< tt));
         hint = hint_length h (get_or l 5 0) (eqb (get_or l 5 0) 0) (w.fits 5 (lit< tt));
@@ -85,13 +66,14 @@ module _ (s : List ℕ) (bytes : AllBytes s) where
   -- what was read can be held, and carries what it holds
   held : (v : Header) → read_header s ≡ gives v → Holdable v
   held v e =
-      let c = came s v e in
-      rw c.is (holdable c.l c.room c.some c.found)
+      let t = places_taken s v e in
+      let w = located s t.places t.found in
+      rw t.is (holdable t.places w.room w.some w.found)
 
   same_again : (v : Header) → read_header s ≡ gives v → carried v ≡ v
   same_again v e =
-      let c = came s v e in
-      rw c.is (carries c.l)
+      let t = places_taken s v e in
+      rw t.is (carries t.places)
 
 pub read_is_holdable : ReadIsHoldable
 read_is_holdable s bytes v e = held s bytes v e

@@ -1,25 +1,18 @@
 -- The first difference of two strings of bytes of one length, by what stands in them. Assumes nothing.
-use mathlib.Core.Path.{◌≡◌, refl, ap}
+use mathlib.Core.Path.{◌≡◌, refl, ap, subst}
 use mathlib.Core.Logic.{◌≢◌}
-use Prim.Native.Nat.{ℕ, zero, suc, ◌+◌, ◌≤◌, ◌<◌}
+use Rattle.std.specs.Prelude.{Option, None, Some, MatchOption, unwrap_or}
+use Rattle.std.specs.List.{AllWithin, HoldsAt, zip}
+use Rattle.std.proofs.lemmas.Slice.Zip.{length-zip, get_or-zip}
+use Prim.Native.Nat.{ℕ, zero, suc, ◌≤◌, ◌<◌}
 use mathlib.Core.List.{List, [], ◌∷◌}
 use mathlib.Core.Bool.{Bool, true, false}
 use native.Mathlib.Omega.{arith}
-use native.Mathlib.Decide.{ℕ_discrete}
 use lib.ListN.{length, get_or}
 use lib.Seq.{ext_get_or}
 use lib.Dec.{eqb}
 use borrow.Author.Tests.{eq-eqb, ne_eqb, eqb-true, eqb-false}
 use Rattle.header_sealed.specs.Profile.{first_difference}
-
--- one byte more is the same
-pub same_more : (a b : List ℕ) (n : ℕ) → ((i : ℕ) → i < n → get_or a i 0 ≡ get_or b i 0) → get_or a n 0 ≡ get_or b n 0
-    → (i : ℕ) → i < n + 1 → get_or a i 0 ≡ get_or b i 0
-same_more a b n h e i lt = go (ℕ_discrete i n)
-  where
-    go : Dec (i ≡ n) → get_or a i 0 ≡ get_or b i 0
-    go (yes is) = rw is e
-    go (no not) = h i (omega arith)
 
 -- a place before which they are the same, and at which they differ
 pub first_is : (a b : List ℕ) (d : ℕ) → length a ≡ length b → d < length a → ((i : ℕ) → i < d → get_or a i 0 ≡ get_or b i 0)
@@ -37,6 +30,25 @@ unfolding first_difference
 none_is [] b e h = refl
 none_is (y ∷ a) [] e h = absurd (omega arith)
 none_is (y ∷ a) (z ∷ b) e h = rw (first_difference, eq-eqb y z (h 0 (omega arith))) (ap suc (none_is a b (omega arith) (λ i l. h (suc i) (omega arith))))
+
+-- what a search along both, pair by pair, finds
+abbrev pub Same : ℕ × ℕ → Type 0
+Same p = p.0 ≡ p.1
+
+abbrev pub Differ : ℕ × ℕ → Type 0
+Differ p = p.0 ≢ p.1
+
+pub found : (a b : List ℕ) (r : Option ℕ) → length a ≡ length b
+    → MatchOption r (AllWithin Same (zip a b) 0 (length (zip a b))) (λ i. (i < length (zip a b)) × HoldsAt Differ (zip a b) i × AllWithin Same (zip a b) 0 i)
+    → unwrap_or r (length a) ≡ first_difference a b
+found a b None e h =
+    none_is a b e (λ i lt. subst Same (get_or-zip a b i (0, 0) lt (omega arith)) (h i (0, 0) (omega arith) (omega (arith, length-zip a b))))
+found a b (Some i) e h =
+    let n = length-zip a b in
+    let lt : i < length a = omega (arith, h.0) in
+    first_is a b i e lt
+    (λ j l. subst Same (get_or-zip a b j (0, 0) (omega arith) (omega arith)) (h.2 j (0, 0) (omega arith) l))
+    (subst Differ (get_or-zip a b i (0, 0) lt (omega arith)) (h.1 (0, 0)))
 
 -- and back: what the place tells of the bytes
 pub record First (a b : List ℕ) (d : ℕ) : Type 0 where

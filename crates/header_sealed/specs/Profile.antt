@@ -2,7 +2,7 @@
 use Rattle.std.specs.Prelude.{ℕ, suc, List, [], ◌∷◌, ◌++◌, true, false, cond, ltb, eqb, length, take, drop}
 use Rattle.numbers.specs.Answer.{Answer, gives, refused, then}
 use Rattle.header_reader.specs.declared.Header.{Header}
-use Rattle.header_reader.specs.Reading.{read_header, values_of}
+use Rattle.header_reader.specs.Reading.{read_header}
 use Rattle.header_writer.specs.Writing.{header_bytes, Write, write}
 
 -- The first place at which two strings of bytes of one length differ; where they do not, that length.
@@ -24,19 +24,6 @@ sealing v d =
 -- these values.
 unfoldable pub read_sealed : List ℕ → Answer Header
 read_sealed s = then (read_header s) (λ v. sealing v (first_difference (take 256 s) (header_bytes v)))
-
--- What a call of the sealed reader answers: that the header is sealed, or a refusal, and the values beside it.
-pub record SealedRead : Type 0 where
-  pub answer : Answer (Unit {0})
-  pub values : Header
-
-abbrev pub sealed_read : Answer (Unit {0}) → Header → SealedRead
-sealed_read a v = record { answer = a; values = v }
-
--- The values beside a refusal are blank, as the ordinary reader's.
-abbrev pub told : Answer Header → SealedRead
-told (gives v) = sealed_read (gives tt) v
-told (refused n p) = sealed_read (refused n p) (values_of (refused n p))
 
 -- The sealed writer: 16, then 3 for a size of 0, then 21 at 138 without a hint; all leave the output alone. Else its first 256 bytes are
 -- the written form, and the rest stays.

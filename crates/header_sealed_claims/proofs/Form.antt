@@ -22,12 +22,13 @@ use Rattle.header_reader.proofs.Refusing.{magic_there, has_zero}
 use Rattle.header_writer.specs.Writing.{front, hint_fields, header_bytes, Write, write_header}
 use Rattle.header_writer.specs.Filled.{end_place, EndsFilled}
 use Rattle.header_writer.proofs.Filled.{fills_to_256}
+use Rattle.header_writer.proofs.Putting.{written}
 use Rattle.header_round_trips.specs.RoundTrips.{Holdable}
 use Rattle.header_round_trips.proofs.Back.{laid, rest, header_laid, tags_written, write_then_read}
 use Rattle.header_round_trips.proofs.Marked.{tags_length}
 use Rattle.header_round_trips.proofs.Again.{read_is_holdable}
 use Rattle.header_sealed.specs.Profile.{read_sealed}
-use Rattle.header_sealed.proofs.Answers.{whole, writer_takes}
+use Rattle.header_sealed.proofs.Answers.{whole}
 use Rattle.header_sealed_claims.specs.Claims.{six_tags, SealedForm, TakesTheSealedForm}
 use Rattle.header_sealed_claims.proofs.Sealing.{sealed_form, sealed_when, reader_gave}
 use Rattle.header_sealed_claims.proofs.Parts.{tag_there, number_there, front_there}
@@ -39,7 +40,7 @@ module _ (v : Header) (f : Holdable v) (hint : v.has_hint ≡ true) (out : List 
   b = header_bytes v ++ drop 256 out
 
   left : (write_header v out).bytes ≡ b
-  left = ap (λ (w : Write). w.bytes) (writer_takes v out room f.some)
+  left = ap (λ (w : Write). w.bytes) (sym (written v out room f.some refl))
 
   has_magic : HasMagic b
   unfolding header_bytes

@@ -15,7 +15,8 @@ use Rattle.header_writer.specs.Writing.{Write, write, write_header}
 use Rattle.header_round_trips.specs.RoundTrips.{carried_hint, carried, RoundTrip}
 use Rattle.header_round_trips.proofs.Back.{header_length, write_then_read}
 use Rattle.header_sealed.specs.Profile.{write_sealed}
-use Rattle.header_sealed.proofs.Answers.{whole, sealed_short, sealed_zero, sealed_no_hint, sealed_written, writer_takes}
+use Rattle.header_sealed.proofs.Answers.{whole, sealed_short, sealed_zero, sealed_no_hint, sealed_written}
+use Rattle.header_writer.proofs.Putting.{written}
 use Rattle.header_sealed_claims.specs.Claims.{SealedForm, WriteThenReadSealed, ReadThenWriteSealed, SealedWriterRefuses, WhenSealedWriterRefuses}
 use Rattle.header_sealed_claims.proofs.Sealing.{sealed_form, sealed_when, reader_gave}
 use Rattle.header_sealed_claims.proofs.Form.{written_form}
@@ -37,7 +38,7 @@ carries v hint = λ i. record {
 
 pub write_then_read_sealed : WriteThenReadSealed
 write_then_read_sealed v f hint out room =
-    let same : write_header v out ≡ write_sealed v out = sealed_written v out room f.some hint in
+    let same : write_header v out ≡ write_sealed v out = sealed_written v out hint in
     let t : RoundTrip (write_sealed v out) out v v =
     subst (λ (u : Header). RoundTrip (write_sealed v out) out v u) (carries v hint)
     (subst (λ (w : Write). RoundTrip w out v (carried v)) same (write_then_read v f out room)) in
@@ -55,7 +56,7 @@ read_then_write_sealed s bytes v e out room =
     let r = reader_gave s v e in
     let w = sealed_form s bytes v r e in
     let some = (whole s v r).some in
-    sym (sealed_written v out room some w.0) ∙ writer_takes v out room some
+    sym (sealed_written v out w.0) ∙ sym (written v out room some refl)
     ∙ ap (λ (l : List ℕ). write (gives tt) (l ++ drop 256 out)) (sym w.1)
 
 -- ---- when it refuses: each case has its answer, and the others not
@@ -101,8 +102,8 @@ module _ (v : Header) (out : List ℕ) where
 
       by_hint : v.has_hint ≡ true → SealedWriterRefuses v out
       by_hint hint =
-          let like = sym (sealed_written v out room some hint) in
-          let is = like ∙ writer_takes v out room some in
+          let like = sym (sealed_written v out hint) in
+          let is = like ∙ sym (written v out room some refl) in
           record {
             short = (λ e. apart (answers is) (answers e) (λ n. omega arith), λ l. absurd (omega arith));
             zero = (λ e. apart (answers is) (answers e) (λ n. omega arith), λ w. absurd (some w.1));

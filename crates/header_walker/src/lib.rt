@@ -5,7 +5,7 @@ ghost use Rattle.std.specs.Prelude.{◌≡◌};
 ghost use Rattle.header_tags.specs.Walk.{item_of};
 ghost use Rattle.header_walker.specs.Walker.{start_of, walker_answer, walker_after, call_answer};
 
-use header_tags::Tag;
+use header_tags::{Tag, WalkRefusal};
 
 // Where a walker starts.
 const FIRST_TAG: usize = header_tags::FIRST_TAG;
@@ -29,24 +29,22 @@ impl<'a> TagWalker<'a> {
     }
 
     // What the walk finds from the walker's place on. The walker moves behind a tag; at the end and after a refusal it stays.
-    pub fn next(&mut self) -> Tag
+    pub fn next(&mut self) -> Result<Option<Tag>, WalkRefusal>
         ensures { (item_of result ≡ walker_answer self.old) × (self.new ≡ walker_after self.old) }
     {
         let look = header_tags::walk_on(self.header, self.at);
         self.at = look.next;
-        look.tag
+        look.found
     }
 }
 
 // What call number n of a new walker answers, counted from 0. Its parameters are plain, so that a caller's proof needs no walker.
-pub fn nth(s: &[u8], n: usize) -> Tag
+pub fn nth(s: &[u8], n: usize) -> Result<Option<Tag>, WalkRefusal>
     ensures { item_of result ≡ call_answer n (start_of s.entry) }
 {
     let mut w = TagWalker::new(s);
-    let mut left = n;
-    while 0 < left {
-        w.next();
-        left -= 1;
+    for _ in 0..n {
+        let _ = w.next();
     }
     w.next()
 }

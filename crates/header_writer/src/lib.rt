@@ -68,6 +68,7 @@ fn put_end(out: &mut [u8], at: usize)
 }
 
 // Writes a header into the first 256 bytes of a lent output, and no other. A refusal changes no byte.
+#[tactic(auto, using(crate::proofs::Putting::too_short, crate::proofs::Putting::zero_size))]
 pub fn write_header(out: &mut [u8], v: Header) -> Result<(), WriteRefusal>
     ensures { write (writer_answer result) out.new ≡ write_header v out.old }
 {

@@ -9,7 +9,6 @@ use lib.Dec.{lit<}
 use lib.ListN.{length, get_or, take}
 use lib.Seq.{length-take-le, get_or-take, take-take}
 use Rattle.numbers.specs.Answer.{gives, refused}
-use Rattle.numbers.specs.declared.ImageOutcome.{ImageOutcome}
 use Rattle.numbers.specs.GivenBack.{image_answer}
 use Rattle.digest_fips180.specs.Sha256.{sha256}
 use Rattle.digest_fips180.specs.Collision.{Message, Collision}
@@ -199,12 +198,12 @@ behind_has_no_say b b' at at' v v' h h' d e = (
 )
 
 pub changed_call_refuses : ChangedCallRefuses
-changed_call_refuses b b' at at' v v' r r' checks checks' is h h' d c =
-    let told : image_in b ≡ gives r.header = sym checks.outcome ∙ ap (λ (o : ImageOutcome). image_answer o r.header) is in
+changed_call_refuses b b' at at' v v' w r r' checks checks' is h h' d c =
+    let told : image_in b ≡ gives w = sym checks ∙ ap image_answer is in
     let good : image_in b ≡ gives v = good_as_read b v h.read told in
     go (each_change_is_refused b b' at at' v v' (record { first = h; second = h'; good = good; digest = d }) c)
   where
     go : NineOrCollision b at v b' at' v'
-        → (image_answer r'.outcome r'.header ≡ refused 9 256) ⊎ Collision (message_of b at v) (message_of b' at' v')
-    go (inl nine) = inl (checks'.outcome ∙ nine)
+        → (image_answer r' ≡ refused 9 256) ⊎ Collision (message_of b at v) (message_of b' at' v')
+    go (inl nine) = inl (checks' ∙ nine)
     go (inr x) = inr x

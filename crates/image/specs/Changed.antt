@@ -1,16 +1,15 @@
 -- Document 02, "The digest must cover the header": what the check says of an image that was changed where the digest covers it. Each statement
 -- is proved in proofs/.
-use Rattle.std.specs.Prelude.{◌≡◌, ◌≢◌, ◌⊎◌, ◌↔◌, ℕ, ◌+◌, ◌-◌, ◌≤◌, ◌<◌, List, length, get_or}
+use Rattle.std.specs.Prelude.{◌≡◌, ◌≢◌, ◌⊎◌, ◌↔◌, ℕ, ◌+◌, ◌-◌, ◌≤◌, ◌<◌, List, length, get_or, Result, Ok}
 use Rattle.numbers.specs.Answer.{gives, refused}
-use Rattle.numbers.specs.declared.ImageOutcome.TheVariants.{Good}
+use Rattle.numbers.specs.declared.ImageRefusal.{ImageRefusal}
 use Rattle.numbers.specs.GivenBack.{image_answer}
 use Rattle.digest_fips180.specs.Collision.{Collision}
 use Rattle.header_tags.specs.Bytes.{AllBytes}
 use Rattle.header_tags.specs.Standing.{TagAt}
 use Rattle.header_reader.specs.declared.Header.{Header}
 use Rattle.header_reader.specs.Reading.{read_header}
-use Rattle.image.specs.declared.ImageAnswer.{ImageAnswer}
-use Rattle.image.specs.Check.{covered, image_in, Checks}
+use Rattle.image.specs.Check.{covered, image_in}
 
 -- The bytes b begin with a header that the reader takes, with the values v and the digest tag at `at`, and they hold the firmware that it
 -- states: of the check only the digest is left. (What the reader refuses has its own number, and a firmware that they do not hold is 3.)
@@ -68,10 +67,10 @@ BehindHasNoSay =
     (b b' : List ℕ) (at at' : ℕ) (v v' : Header) → Holds b at v → Holds b' at' v' → v.digest ≡ v'.digest
     → message_of b at v ≡ message_of b' at' v' → (image_in b ≡ gives v) ↔ (image_in b' ≡ gives v')
 
--- The same of two calls of `check_firmware`, which were lent b and b': the first gave r, and that is good; the second gave r'. Each states the
+-- The same of two calls of `check_firmware`, which were lent b and b': the first gave r, a header; the second gave r'. Each states the
 -- digest that the reader finds.
 abbrev pub ChangedCallRefuses : Type 0
 ChangedCallRefuses =
-    (b b' : List ℕ) (at at' : ℕ) (v v' : Header) (r r' : ImageAnswer) → Checks (image_in b) r → Checks (image_in b') r' → r.outcome ≡ Good
-    → Holds b at v → Holds b' at' v' → v'.digest ≡ v.digest → Change b at v b' at' v'
-    → (image_answer r'.outcome r'.header ≡ refused 9 256) ⊎ Collision (message_of b at v) (message_of b' at' v')
+    (b b' : List ℕ) (at at' : ℕ) (v v' w : Header) (r r' : Result Header ImageRefusal) → image_answer r ≡ image_in b
+    → image_answer r' ≡ image_in b' → r ≡ Ok w → Holds b at v → Holds b' at' v' → v'.digest ≡ v.digest → Change b at v b' at' v'
+    → (image_answer r' ≡ refused 9 256) ⊎ Collision (message_of b at v) (message_of b' at' v')

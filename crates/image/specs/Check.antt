@@ -1,14 +1,12 @@
 -- Document 01, "Image check", and document 02, "The digest must cover the header".
-use Rattle.std.specs.Prelude.{◌≡◌, ℕ, ◌-◌, cond, List, ◌++◌, ltb, length, get_or, take, drop}
+use Rattle.std.specs.Prelude.{ℕ, ◌-◌, cond, List, ◌++◌, ltb, length, get_or, take, drop}
 use Rattle.header_tags.specs.Bytes.{same}
 use Rattle.numbers.specs.Answer.{Answer, gives, refused, then}
 use Rattle.digest_fips180.specs.Sha256.{sha256}
-use Rattle.numbers.specs.GivenBack.{image_answer}
 use Rattle.header_reader.specs.declared.Header.{Header}
-use Rattle.header_reader.specs.Reading.{tag_places, values_at, values_of}
+use Rattle.header_reader.specs.Reading.{tag_places, values_at}
 use Rattle.flash.specs.Sectors.{firmware_of}
 use Rattle.flash.specs.Buffers.{partition_of}
-use Rattle.image.specs.declared.ImageAnswer.{ImageAnswer}
 
 -- "The header": the values of the one at the front of the bytes b, whose tags stand at these places.
 abbrev pub values_in : List ℕ → List ℕ → Header
@@ -39,8 +37,3 @@ image_in b = then (tag_places b) (judged b)
 -- "Image check" of a partition: check 1 first; then the image in its firmware sectors, so that the trailer sector has no say.
 unfoldable pub check_image : ℕ → ℕ → List ℕ → Answer Header
 check_image n s l = then (partition_of n s l) (λ g. image_in (firmware_of g l))
-
--- "How strict the contracts are": what a check promises, its outcome, and the header's values, blank beside a refusal.
-pub record Checks (answer : Answer Header) (r : ImageAnswer) : Type 0 where
-  pub outcome : image_answer r.outcome r.header ≡ answer
-  pub values : r.header ≡ values_of answer

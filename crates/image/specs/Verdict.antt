@@ -5,12 +5,7 @@ use Rattle.flash.specs.declared.Geometry.{Geometry}
 use Rattle.flash.specs.Sectors.{firmware_of}
 use Rattle.header_tags.specs.Standing.{TagAt}
 use Rattle.header_reader.specs.declared.Header.{Header}
-use Rattle.numbers.specs.declared.ImageOutcome.{ImageOutcome}
-use Rattle.numbers.specs.declared.ImageOutcome.TheVariants.{Good as GoodImage}
 use Rattle.image.specs.declared.Release.{Release}
-use Rattle.image.specs.declared.ImageVerdict.{ImageVerdict}
-use Rattle.image.specs.declared.ImageVerdict.TheVariants.{Good, Bad}
-use Rattle.numbers.specs.GivenBack.{own_of}
 use Rattle.image.specs.Check.{image_in}
 
 -- "Power-up", what it needs of a good image's values: its version, its size and its timestamp.
@@ -38,13 +33,3 @@ ChecksThatImage = (g : Geometry) (l : List ℕ) → SaysOfImage g l
 -- fits, no image that has one. Proved in proofs/.
 abbrev pub CheckedIsUnderstood : Type 0
 CheckedIsUnderstood = (g : Geometry) (l : List ℕ) (n q t : ℕ) → check_of g l ≡ gives n → TagAt (firmware_of g l) q t → t < 0x8000
-
--- "Numbers given back", what the code's verdict says: a good image's release, or a bad one's own number and place.
-abbrev pub verdict_of : ImageVerdict → Answer Release
-verdict_of (Good r) = gives r
-verdict_of (Bad o) = refused (own_of o).number (own_of o).place
-
--- What a verdict promises of the answer that the rules give: it says the same, and no good image is told as a bad one.
-pub record Judges (answer : Answer Header) (r : ImageVerdict) : Type 0 where
-  pub verdict : verdict_of r ≡ released answer
-  pub bad : (o : ImageOutcome) → r ≡ Bad o → o ≡ GoodImage → ⊥

@@ -7,37 +7,24 @@ ghost use Rattle.flash.specs.Sectors.{Partition, firmware_of};
 ghost use Rattle.header_tags.specs.Bytes.{same};
 ghost use Rattle.header_places.specs.Table.{document_table};
 ghost use Rattle.header_places.specs.Judging.{TagsFit};
-ghost use Rattle.header_reader.specs.Reading.{values_at, blank};
-ghost use Rattle.image.specs.Check.{judged, image_in, check_image, Checks};
-ghost use Rattle.image.specs.Verdict.{release_of, Judges};
+ghost use Rattle.header_reader.specs.Reading.{values_at};
+ghost use Rattle.numbers.specs.GivenBack.{image_answer};
+ghost use Rattle.image.specs.Check.{judged, image_in, check_image};
+ghost use Rattle.image.specs.Verdict.{release_of, released};
 
-use flash::{Geometry, GeometryAnswer};
+use flash::Geometry;
 use header_places::ROWS;
 use header_reader::Header;
-use numbers::{HeaderOutcome, ImageOutcome};
-
-// A good image hands back its header's values. The header of a refusal is blank.
-#[derive(Clone, Copy)]
-pub struct ImageAnswer {
-    pub outcome: ImageOutcome,
-    pub header: Header,
-}
+use numbers::{HeaderRefusal, ImageRefusal};
 
 // What a power-up and its kin need of a good image.
-#[derive(Clone, Copy)]
+#[derive(Clone, Copy, PartialEq, Eq)]
 pub struct Release {
     pub version: u32,
     // The firmware's size in bytes.
     pub size: u32,
     // Unix seconds.
     pub timestamp: u64,
-}
-
-// What the image check finds: a good image, or what is wrong.
-#[derive(Clone, Copy)]
-pub enum ImageVerdict {
-    Good(Release),
-    Bad(ImageOutcome),
 }
 
 // ---- the check, where the image lies
@@ -55,8 +42,7 @@ fn read_release(h: &[u8], places: [usize; ROWS]) -> Release
     requires { TagsFit document_table places (length h.now) }
     ensures { result ≡ release_of (values_at h.now places) }
 {
-    let version = places[0];
-    let timestamp = places[1];
+    let [version, timestamp, ..] = places;
     Release {
         version: header_reader::read_u32(h, version + 4),
         size: header_reader::read_u32(h, 4),
@@ -66,14 +52,14 @@ fn read_release(h: &[u8], places: [usize; ROWS]) -> Release
 
 // The image whose header has its tags at these places. What the digest covers is digested where it lies, and the digest that is stated
 // is compared where it stands.
-fn judge_at(b: &[u8], places: [usize; ROWS]) -> ImageVerdict
+fn judge_at(b: &[u8], places: [usize; ROWS]) -> Result<Release, ImageRefusal>
     requires { (256 ≤ length b.now) × TagsFit document_table places 256 }
-    ensures { Judges (judged b.now places) result }
+    ensures { image_answer result ≡ released (judged b.now places) }
 {
     let h = &b[..header_tags::HEADER_LENGTH];
     let size = header_reader::read_u32(h, 4) as usize;
     if b.len() - header_tags::HEADER_LENGTH < size {
-        return ImageVerdict::Bad(ImageOutcome::BadHeader(HeaderOutcome::WrongSize));
+        return Err(ImageRefusal::BadHeader(HeaderRefusal::WrongSize));
     }
     let end = header_tags::HEADER_LENGTH + size;
     let at = places[2];
@@ -82,67 +68,43 @@ fn judge_at(b: &[u8], places: [usize; ROWS]) -> ImageVerdict
         &b[header_tags::HEADER_LENGTH..end],
         &h[at + 4..at + 36],
     ) {
-        return ImageVerdict::Good(read_release(h, places));
+        return Ok(read_release(h, places));
     }
-    ImageVerdict::Bad(ImageOutcome::WrongDigest)
+    Err(ImageRefusal::WrongDigest)
 }
 
 // The image in the bytes of the firmware sectors.
-pub fn judge(b: &[u8]) -> ImageVerdict
-    ensures { Judges (image_in b.now) result }
+pub fn judge(b: &[u8]) -> Result<Release, ImageRefusal>
+    ensures { image_answer result ≡ released (image_in b.now) }
 {
-    let found = header_reader::locate(b);
-    let outcome = found.outcome;
-    let places = found.places;
-    if let HeaderOutcome::Accepted = outcome {
-        return judge_at(b, places);
-    }
-    ImageVerdict::Bad(ImageOutcome::BadHeader(outcome))
+    let places = header_reader::locate(b)?;
+    judge_at(b, places)
 }
 
 // The image of a partition.
-pub fn judge_partition(g: Geometry, partition: &[u8]) -> ImageVerdict
+pub fn judge_partition(g: Geometry, partition: &[u8]) -> Result<Release, ImageRefusal>
     requires { Partition g partition.now }
-    ensures { Judges (image_in (firmware_of g partition.now)) result }
+    ensures { image_answer result ≡ released (image_in (firmware_of g partition.now)) }
 {
     judge(flash_sectors::firmware_part(g, partition))
 }
 
 // ---- the check that hands back the header's values
 
-// An outcome beside a blank header.
-fn refuse(o: ImageOutcome) -> ImageAnswer
-    ensures { (result.outcome ≡ o) × (result.header ≡ blank) }
-{
-    ImageAnswer {
-        outcome: o,
-        header: Header::blank(),
-    }
-}
-
 // The image in the bytes of the firmware sectors: its header is read where the image is good.
-pub fn check_firmware(b: &[u8]) -> ImageAnswer
-    ensures { Checks (image_in b.now) result }
+pub fn check_firmware(b: &[u8]) -> Result<Header, ImageRefusal>
+    ensures { image_answer result ≡ image_in b.now }
 {
-    match judge(b) {
-        ImageVerdict::Good(_) => {
-            let read = header_reader::read_header(b);
-            let header = read.header;
-            ImageAnswer {
-                outcome: ImageOutcome::Good,
-                header,
-            }
-        }
-        ImageVerdict::Bad(o) => refuse(o),
-    }
+    judge(b)?;
+    Ok(header_reader::read_header(b)?)
 }
 
 // The image of a partition of `sectors` sectors of `size` bytes: any numbers and any length are taken.
-pub fn check_image(sectors: usize, size: usize, partition: &[u8]) -> ImageAnswer
-    ensures { Checks (check_image sectors size partition.now) result }
+pub fn check_image(sectors: usize, size: usize, partition: &[u8]) -> Result<Header, ImageRefusal>
+    ensures { image_answer result ≡ check_image sectors size partition.now }
 {
-    match flash::check_partition(sectors, size, partition) {
-        GeometryAnswer::Fits(g) => check_firmware(flash_sectors::firmware_part(g, partition)),
-        GeometryAnswer::Outside => refuse(ImageOutcome::OutsideRules),
-    }
+    let Some(g) = flash::check_partition(sectors, size, partition) else {
+        return Err(ImageRefusal::OutsideRules);
+    };
+    check_firmware(flash_sectors::firmware_part(g, partition))
 }

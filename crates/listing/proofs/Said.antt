@@ -5,12 +5,10 @@ use mathlib.Core.List.{List}
 use native.Mathlib.Omega.{arith}
 use lib.ListN.{length}
 use lib.Seq.{sets-eq, length-sets, length-take-le}
-use Rattle.numbers.specs.Answer.{Answer}
-use Rattle.numbers.specs.declared.HeaderOutcome.{HeaderOutcome}
-use Rattle.numbers.specs.declared.HeaderOutcome.TheVariants.{Accepted}
+use Rattle.numbers.specs.Answer.{gives}
+use Rattle.numbers.specs.declared.HeaderRefusal.{HeaderRefusal}
 use Rattle.numbers.specs.declared.Refused.{Refused}
-use Rattle.numbers.specs.GivenBack.{refusal_of, header_says, header_answer}
-use Rattle.numbers.proofs.Refusals.{refusing}
+use Rattle.numbers.specs.GivenBack.{refused_with, header_says}
 use Rattle.header_reader.specs.declared.Header.{Header}
 use Rattle.header_reader.specs.Reading.{read_header}
 use Rattle.listing_lines.specs.Lines.{fields, refusal}
@@ -28,13 +26,10 @@ lists {d} {e} {t} {r} s same small room x =
       within = (omega arith, sym (length-take-le r e (omega arith)));
     }
 
-module _ {d e : List ℕ} {r : ℕ} (s : List ℕ) (o : HeaderOutcome) (v : Header) (read : header_answer o v ≡ read_header s) where
-  pub lists_fields : o ≡ Accepted → r ≤ 128 → 128 ≤ length d → Puts d e 0 (fields v) r → Lists s d e r
-  lists_fields is = lists s (ap listing (ap (λ (y : HeaderOutcome). header_answer y v) (sym is) ∙ read))
+module _ {d e : List ℕ} {r : ℕ} (s : List ℕ) where
+  pub lists_fields : {v : Header} → gives v ≡ read_header s → r ≤ 128 → 128 ≤ length d → Puts d e 0 (fields v) r → Lists s d e r
+  lists_fields read = lists s (ap listing read)
 
-  pub lists_refusal : {w : Refused} → (o ≡ Accepted → ⊥) → w ≡ refusal_of (header_says o) → r ≤ 128 → 128 ≤ length d
+  pub lists_refusal : (h : HeaderRefusal) {w : Refused} → refused_with (header_says h) ≡ read_header s → w ≡ header_says h → r ≤ 128 → 128 ≤ length d
       → Puts d e 0 (refusal w.number w.place) r → Lists s d e r
-  lists_refusal {w} not is =
-      let q = refusing o not in
-      let k : w ≡ record { number = q.number; place = q.place } = is ∙ ap (λ (a : Answer (Unit {0})). refusal_of a) q.says in
-      lists s (ap (λ (z : Refused). refusal z.number z.place) k ∙ ap listing (sym (q.is v) ∙ read))
+  lists_refusal h read is = lists s (ap (λ (z : Refused). refusal z.number z.place) is ∙ ap listing read)

@@ -5,7 +5,7 @@ ghost use Rattle.std.specs.Prelude.{◌≡◌};
 ghost use Rattle.listing.specs.Listing.{Lists};
 
 use listing_lines::{put_fields, put_refusal};
-use numbers::HeaderOutcome;
+use numbers::Numbered;
 
 // How many bytes a header has: a caller need read no more.
 pub const HEADER_LENGTH: usize = header_tags::HEADER_LENGTH;
@@ -17,12 +17,11 @@ pub const TEXT_LENGTH: usize = 128;
 pub fn list(s: &[u8], out: &mut [u8; TEXT_LENGTH]) -> usize
     ensures { Lists s.now out.old out.new result }
 {
-    let answer = header_reader::read_header(s);
-    let outcome = answer.outcome;
-    if let HeaderOutcome::Accepted = outcome {
-        let header = answer.header;
-        return put_fields(out, header);
+    match header_reader::read_header(s) {
+        Ok(header) => put_fields(out, header),
+        Err(refusal) => {
+            let refused = refusal.refused();
+            put_refusal(out, refused.number as usize, refused.place)
+        }
     }
-    let refused = numbers::of_header(outcome);
-    put_refusal(out, refused.number as usize, refused.place)
 }

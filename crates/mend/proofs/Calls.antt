@@ -1,27 +1,26 @@
 -- Mending by its checks, by the mark that was found, and by what was written.
 use mathlib.Core.Path.{◌≡◌, refl, sym, ap, ap₂, ◌∙◌, subst}
-use mathlib.Core.Bool.{true, false}
+use mathlib.Core.Bool.{Bool, true, false, cond}
 use mathlib.Core.List.{List}
 use Prim.Native.Nat.{ℕ}
+use native.Mathlib.Omega.{arith}
+use Rattle.std.specs.Prelude.{Option, Some, None}
+use Rattle.std.specs.Option.{ok_or}
 use Rattle.numbers.specs.Answer.{Answer, gives, refused, then}
+use Rattle.numbers.specs.declared.MendRefusal.TheVariants.{OutsideRules, NoMarkFits}
 use Rattle.flash.specs.declared.Geometry.{Geometry}
-use Rattle.flash.specs.declared.GeometryAnswer.TheVariants.{Outside}
-use Rattle.flash.specs.Sizes.{geometry, geometry_answer}
+use Rattle.flash.specs.Sizes.{geometry, geometry_where, geometry_answer}
 use Rattle.flash.specs.Buffers.{Flash, flash, fits, flash_of}
-use Rattle.flash.proofs.Answers.{flash_asked, flash_fits, flash_unfit}
+use Rattle.flash.proofs.Answers.{flash_asked, flash_fits}
 use Rattle.flash_status.specs.declared.BootStatus.{BootStatus}
 use Rattle.flash_status.specs.declared.BootStatus.TheVariants.{New as BootNew, Testing, Success}
 use Rattle.flash_status.specs.declared.UpdateStatus.TheVariants.{New as UpdateNew}
 use Rattle.image.specs.Verdict.{check_of}
 use Rattle.mending.specs.declared.Mark.{Mark}
-use Rattle.mending.specs.Mending.{may_mend, found, set_flags, changed, given, Mend, with_mark, mending}
+use Rattle.mending.specs.Mending.{may_mend, found, given, with_mark, mending}
 use Rattle.mending_flags.specs.Wrote.{Wrote}
-use Rattle.mending_search.specs.declared.FoundMark.{FoundMark}
-use Rattle.mending_search.specs.declared.FoundMark.TheVariants.{First, None}
 use Rattle.mending_search.specs.Search.{found_or}
-use Rattle.mend.specs.declared.MendPermit.{MendPermit}
-use Rattle.mend.specs.declared.MendPermit.TheVariants.{Granted}
-use Rattle.mend.specs.Inner.{permit_of, permit_at, first_mark, mend_after}
+use Rattle.mend.specs.Inner.{code_answer, permit_at, first_mark, mend_after}
 
 -- an UPDATE that is NEW is the wrong time
 pub mend_new : (b : BootStatus) → may_mend b UpdateNew ≡ refused 14 0
@@ -29,32 +28,45 @@ mend_new BootNew = refl
 mend_new Testing = refl
 mend_new Success = refl
 
-module _ (g : Geometry) (f : Flash) where
-  -- ---- by the mark that was found
-  module _ (r : FoundMark) (e : found_or r (refused 17 0) ≡ first_mark g f) where
-    pub mark_written : (k : Mark) (v : List ℕ) (n : ℕ) → r ≡ First k → Wrote g k f.update v n
-        → record { answer = gives (given k n); flash = flash f.boot v f.swap } ≡ mend_after g f (gives tt)
-    mark_written k v n q w =
-        ap₂ (λ (x : List ℕ) (c : ℕ). record { answer = gives (given k c); flash = flash f.boot x f.swap }) w.bytes w.count
-        ∙ ap (with_mark g f) (ap (λ (x : FoundMark). found_or x (refused 17 0)) (sym q) ∙ e)
+-- what the code makes of a geometry or none, and of a mark or none
+pub asked : (x : Option Geometry) → code_answer (ok_or x OutsideRules) ≡ geometry_answer x
+asked (Some g) = refl
+asked None = refl
 
-    pub no_mark : r ≡ None → record { answer = refused 17 0; flash = f } ≡ mend_after g f (gives tt)
-    no_mark q = ap (with_mark g f) (ap (λ (x : FoundMark). found_or x (refused 17 0)) (sym q) ∙ e)
-
-  -- ---- by what the checks decided
-  pub permitted : (p q : MendPermit) → permit_of p ≡ permit_at g f.boot f.update → p ≡ q
-      → mend_after g f (permit_of q) ≡ mend_after g f (permit_at g f.boot f.update)
-  permitted p q e h = ap (mend_after g f) (sym (ap permit_of h) ∙ e)
-
--- ---- by geometry and lengths
+pub found_mark : (x : Option Mark) → code_answer (ok_or x NoMarkFits) ≡ found_or x (refused 17 0)
+found_mark (Some k) = refl
+found_mark None = refl
 
 module _ (n s : ℕ) (f : Flash) where
-  pub is_mending : (g : Geometry) → gives g ≡ flash_of n s f → mend_after g f (permit_at g f.boot f.update) ≡ mending check_of (geometry n s) f
-  unfolding mending found
-  is_mending g e =
-      let h : geometry n s ≡ g = flash_asked n s f g e in
-      subst (λ (x : Geometry). mend_after g f (permit_at g f.boot f.update) ≡ mending check_of x f) (sym h) (rw (flash_fits n s f g e) refl)
+  -- ---- the checks, one after the other
+  pub not_fit : {m p : ℕ} → refused m p ≡ flash_of n s f → record { answer = refused m p; flash = f } ≡ mending check_of (geometry n s) f
+  unfolding flash_of mending found
+  not_fit {m} {p} e = by (fits (geometry n s) f) e
+    where
+      by : (b : Bool) → refused m p ≡ geometry_where b n s
+          → with_mark (geometry n s) f (refused m p)
+          ≡ with_mark (geometry n s) f (then (cond b (permit_at (geometry n s) f.boot f.update) (refused 1 0)) (λ t. first_mark (geometry n s) f))
+      by true q = absurd (let z : ◌≡◌ {A = ℕ} 0 1 = cc in omega arith)
+      by false q = ap (λ (x : Answer Geometry). with_mark (geometry n s) f (then x (λ h. first_mark (geometry n s) f))) q
 
-  pub not_fit : geometry_answer Outside ≡ flash_of n s f → record { answer = refused 1 0; flash = f } ≡ mending check_of (geometry n s) f
-  unfolding mending found
-  not_fit e = rw (flash_unfit n s f e) refl
+  module _ {g : Geometry} (e : gives g ≡ flash_of n s f) where
+    is_mending : mend_after g f (permit_at g f.boot f.update) ≡ mending check_of (geometry n s) f
+    unfolding mending found
+    is_mending =
+        subst (λ (x : Geometry). mend_after g f (permit_at g f.boot f.update) ≡ mending check_of x f) (sym (flash_asked n s f g e))
+        (rw (flash_fits n s f g e) refl)
+
+    pub not_permitted : {m p : ℕ} → refused m p ≡ permit_at g f.boot f.update
+        → record { answer = refused m p; flash = f } ≡ mending check_of (geometry n s) f
+    not_permitted d = ap (mend_after g f) d ∙ is_mending
+
+    -- ---- by the mark that was found
+    module _ (d : gives tt ≡ permit_at g f.boot f.update) where
+      pub no_mark : {m p : ℕ} → refused m p ≡ first_mark g f → record { answer = refused m p; flash = f } ≡ mending check_of (geometry n s) f
+      no_mark h = ap (with_mark g f) h ∙ ap (mend_after g f) d ∙ is_mending
+
+      pub mark_written : (k : Mark) (v : List ℕ) (c : ℕ) → gives k ≡ first_mark g f → Wrote g k f.update v c
+          → record { answer = gives (given k c); flash = flash f.boot v f.swap } ≡ mending check_of (geometry n s) f
+      mark_written k v c h w =
+          ap₂ (λ (x : List ℕ) (z : ℕ). record { answer = gives (given k z); flash = flash f.boot x f.swap }) w.bytes w.count
+          ∙ ap (with_mark g f) h ∙ ap (mend_after g f) d ∙ is_mending

@@ -1,6 +1,7 @@
 -- What the functions of this crate answer.
-use Rattle.std.specs.Prelude.{List, ℕ}
+use Rattle.std.specs.Prelude.{List, ℕ, Result, Ok, Err}
 use Rattle.numbers.specs.Answer.{Answer, gives, refused, then}
+use Rattle.numbers.specs.declared.MendRefusal.{MendRefusal}
 use Rattle.numbers.specs.GivenBack.{mend_number}
 use Rattle.flash.specs.declared.Geometry.{Geometry}
 use Rattle.flash.specs.Sizes.{firmware}
@@ -12,13 +13,11 @@ use Rattle.mending.specs.declared.Mark.{Mark}
 use Rattle.mending.specs.Marks.{marks}
 use Rattle.mending.specs.OldImages.{fits_mark}
 use Rattle.mending.specs.Mending.{first_fitting, may_mend, Mend, with_mark}
-use Rattle.mend.specs.declared.MendPermit.{MendPermit}
-use Rattle.mend.specs.declared.MendPermit.TheVariants.{Granted, Denied}
 
--- what the checks before the marks decide
-abbrev pub permit_of : MendPermit → Answer (Unit {0})
-permit_of Granted = gives tt
-permit_of (Denied r) = refused (mend_number r) 0
+-- what a check or a search answers: a refusal is at no place
+abbrev pub code_answer : {A : Type 0} → Result A MendRefusal → Answer A
+code_answer (Ok a) = gives a
+code_answer (Err r) = refused (mend_number r) 0
 
 -- those checks on buffers of the right lengths
 abbrev pub permit_at : Geometry → List ℕ → List ℕ → Answer (Unit {0})

@@ -4,6 +4,7 @@ use mathlib.Core.Bool.{true}
 use mathlib.Core.List.{List}
 use Prim.Native.Nat.{ℕ, ◌+◌, ◌-◌, ◌*◌, ◌≤◌, ◌<◌}
 use native.Mathlib.Omega.{arith}
+use Rattle.std.specs.Prelude.{Some}
 use Rattle.numbers.specs.Answer.{Answer, gives, no_reason}
 use Rattle.flash.specs.declared.Geometry.{Geometry}
 use Rattle.flash.specs.Sizes.{firmware}
@@ -15,7 +16,6 @@ use Rattle.flash_status.specs.declared.UpdateStatus.TheVariants.{Updating}
 use Rattle.flash_status.specs.StatusBytes.{boot_status_at, update_status_at}
 use Rattle.flash_flags.specs.declared.Flag.{Flag}
 use Rattle.flash_flags.specs.declared.Flag.TheVariants.{Untouched}
-use Rattle.flash_flags.specs.declared.FlagRead.TheVariants.{Known}
 use Rattle.flash_flags.specs.declared.Flags.TheVariants.{AllF}
 use Rattle.flash_flags.specs.SectorFlags.{moved, flags_at}
 use Rattle.exchange.specs.declared.Area.TheVariants.{Update}
@@ -58,7 +58,7 @@ module _ (check : Check) (g : Geometry) (f : Flash) (k : Mark) (R : ReadsFirmwar
     read_update = reads;
     stands = record {
       within = moves_within (firmware g) k A;
-      flags = λ i h. O.written i h ∙ ap Known (flag_moved (firmware g) k i h);
+      flags = λ i h. O.written i h ∙ ap Some (flag_moved (firmware g) k i h);
       in_place = λ i h. record {
         flag = flag_under k i;
         reads = O.written i h;
@@ -180,7 +180,7 @@ module _ (check : Check) (g : Geometry) (old f f' : Flash) (a : ℕ) (R : ReadsF
 
       shown : ReadAs g f w.mark
       shown i h =
-          o.stands.flags i h ∙ ap (λ (b : ℕ). Known (moved (b - 3 * i))) (sym w.moves) ∙ ap Known (sym (flag_moved (firmware g) w.mark i h))
+          o.stands.flags i h ∙ ap (λ (b : ℕ). Some (moved (b - 3 * i))) (sym w.moves) ∙ ap Some (sym (flag_moved (firmware g) w.mark i h))
 
       r : Gives (fits_mark check g f') (firmware g) w.mark (first_fitting (fits_mark check g f') (marks (firmware g)))
       r = some_given (fits_mark check g f') (firmware g) w.mark w.among (but_fits g f f' S E check R w.mark ∙ fits_true check g f w.mark (true_mark w.mark shown))

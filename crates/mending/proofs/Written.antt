@@ -8,12 +8,12 @@ use native.Mathlib.Omega.{arith}
 use lib.ListN.{length, get_or, set}
 use lib.Seq.{set-get_or}
 use borrow.Author.Tests.{eq-eqb, ne_eqb}
+use Rattle.std.specs.Prelude.{Some}
 use Rattle.flash.specs.declared.Geometry.{Geometry}
 use Rattle.flash.specs.Sizes.{firmware, partition_size, Limits}
 use Rattle.flash.specs.Buffers.{Flash, flash}
 use Rattle.flash_flags.specs.declared.Flag.{Flag}
 use Rattle.flash_flags.specs.declared.Flag.TheVariants.{Untouched, Saved, Moved, Exchanged}
-use Rattle.flash_flags.specs.declared.FlagRead.TheVariants.{Known}
 use Rattle.flash_flags.specs.SectorFlags.{flag_value, flag_of, flag_byte, half, with_half, flag_at, set_flag}
 use Rattle.flash_flags.proofs.Halves.{half_even, half_odd, with_even, with_odd}
 use Rattle.flash_flags.proofs.Laws.{reads_flag, length_flag, byte_flag, half_flag, flag_same, flag_other}
@@ -25,12 +25,12 @@ use Rattle.mending.specs.Mended.{OnlyFlags}
 -- ---- a flag that is there already
 
 -- a half byte that reads as a flag is its value
-value_of : (h : ℕ) (v : Flag) → flag_of h ≡ Known v → h ≡ flag_value v
+value_of : (h : ℕ) (v : Flag) → flag_of h ≡ Some v → h ≡ flag_value v
 unfolding flag_of
 value_of h v e = by (ℕ_discrete h 0xF) (ℕ_discrete h 7) (ℕ_discrete h 3) (ℕ_discrete h 0)
   where
     is : (w : Flag) → h ≡ flag_value w → h ≡ flag_value v
-    is w q = let s : Known w ≡ Known v = sym (reads_flag w) ∙ ap flag_of (sym q) ∙ e in let n : w ≡ v = cc in q ∙ ap flag_value n
+    is w q = let s : Some w ≡ Some v = sym (reads_flag w) ∙ ap flag_of (sym q) ∙ e in let n : w ≡ v = cc in q ∙ ap flag_value n
 
     by : Dec (h ≡ 0xF) → Dec (h ≡ 7) → Dec (h ≡ 3) → Dec (h ≡ 0) → h ≡ flag_value v
     by (yes q) b c d = is Untouched q
@@ -47,7 +47,7 @@ half_back i b = by (ℕ_discrete (i % 2) 0)
     by (yes e) = rw (half_even i b e, with_even i b (b % 16) e) (omega arith)
     by (no e) = rw (half_odd i b e, with_odd i b (b / 16) e) (omega arith)
 
-set_same : (g : Geometry) (u : List ℕ) (i : ℕ) (v : Flag) → flag_at g u i ≡ Known v → set_flag g i v u ≡ u
+set_same : (g : Geometry) (u : List ℕ) (i : ℕ) (v : Flag) → flag_at g u i ≡ Some v → set_flag g i v u ≡ u
 unfolding set_flag flag_at
 set_same g u i v e =
     let b : ℕ = get_or u (flag_byte g i) 0 in
@@ -77,7 +77,7 @@ module _ (g : Geometry) (G : Limits g) (k : Mark) (u : List ℕ) (U : length u �
       half_flag g G (set_flags_to g k n u) (length_to n (omega arith) ∙ U) n (flag_under k n) (omega arith) (firmware g) (omega arith) (λ e. absurd (omega arith))
       ∙ half_to n (omega arith)
 
-  flag_to : (n : ℕ) → n ≤ firmware g → (j : ℕ) → j < n → flag_at g (set_flags_to g k n u) j ≡ Known (flag_under k j)
+  flag_to : (n : ℕ) → n ≤ firmware g → (j : ℕ) → j < n → flag_at g (set_flags_to g k n u) j ≡ Some (flag_under k j)
   unfolding set_flags_to
   flag_to zero h j hj = absurd (omega arith)
   flag_to (suc n) h j hj = by (ℕ_discrete j n) (λ l. flag_to n (omega arith) j l)
@@ -85,14 +85,14 @@ module _ (g : Geometry) (G : Limits g) (k : Mark) (u : List ℕ) (U : length u �
       L : length (set_flags_to g k n u) ≡ partition_size g
       L = length_to n (omega arith) ∙ U
 
-      by : Dec (j ≡ n) → (j < n → flag_at g (set_flags_to g k n u) j ≡ Known (flag_under k j)) → flag_at g (set_flag g n (flag_under k n) (set_flags_to g k n u)) j ≡ Known (flag_under k j)
+      by : Dec (j ≡ n) → (j < n → flag_at g (set_flags_to g k n u) j ≡ Some (flag_under k j)) → flag_at g (set_flag g n (flag_under k n) (set_flags_to g k n u)) j ≡ Some (flag_under k j)
       by (yes e) below =
           ap (flag_at g (set_flag g n (flag_under k n) (set_flags_to g k n u))) e ∙ flag_same g G (set_flags_to g k n u) L n (flag_under k n) (omega arith)
-          ∙ ap (λ (i : ℕ). Known (flag_under k i)) (sym e)
+          ∙ ap (λ (i : ℕ). Some (flag_under k i)) (sym e)
       by (no e) below = flag_other g G (set_flags_to g k n u) L n (flag_under k n) (omega arith) j (omega arith) e ∙ below (omega arith)
 
   -- where the flags are there already
-  same_to : ((j : ℕ) → j < firmware g → flag_at g u j ≡ Known (flag_under k j)) → (n : ℕ) → n ≤ firmware g → set_flags_to g k n u ≡ u
+  same_to : ((j : ℕ) → j < firmware g → flag_at g u j ≡ Some (flag_under k j)) → (n : ℕ) → n ≤ firmware g → set_flags_to g k n u ≡ u
   unfolding set_flags_to
   same_to h zero l = refl
   same_to h (suc n) l = ap (set_flag g n (flag_under k n)) (same_to h n (omega arith)) ∙ set_same g u n (flag_under k n) (h n (omega arith))
@@ -113,7 +113,7 @@ only_flags g G k f U = record {
 }
 
 pub set_again : (g : Geometry) (G : Limits g) (k : Mark) (u : List ℕ) → length u ≡ partition_size g
-    → ((j : ℕ) → j < firmware g → flag_at g u j ≡ Known (flag_under k j)) → set_flags g k u ≡ u
+    → ((j : ℕ) → j < firmware g → flag_at g u j ≡ Some (flag_under k j)) → set_flags g k u ≡ u
 set_again g G k u U h = same_to g G k u U h (firmware g) (omega arith)
 
 -- ---- bytes that differ

@@ -1,5 +1,5 @@
 -- What is claimed of mending, for every image check. Each statement is proved in proofs/.
-use Rattle.std.specs.Prelude.{◌≡◌, ◌≢◌, ◌↔◌, ◌⊎◌, true, false, List, ℕ, zero, suc, ◌+◌, ◌*◌, ◌≤◌, ◌<◌, length, get_or}
+use Rattle.std.specs.Prelude.{◌≡◌, ◌≢◌, ◌↔◌, ◌⊎◌, true, false, List, ℕ, zero, suc, ◌+◌, ◌*◌, ◌≤◌, ◌<◌, length, get_or, Some}
 use Rattle.numbers.specs.Answer.{Answer, gives, refused, then}
 use Rattle.flash.specs.declared.Geometry.{Geometry}
 use Rattle.flash.specs.Sizes.{firmware, partition_size}
@@ -10,7 +10,6 @@ use Rattle.flash_status.specs.declared.UpdateStatus.{UpdateStatus}
 use Rattle.flash_status.specs.declared.UpdateStatus.TheVariants.{Updating}
 use Rattle.flash_status.specs.StatusBytes.{boot_status_at, update_status_at}
 use Rattle.flash_flags.specs.declared.Flag.TheVariants.{Untouched, Exchanged}
-use Rattle.flash_flags.specs.declared.FlagRead.TheVariants.{Known}
 use Rattle.flash_flags.specs.declared.Leg.TheVariants.{UpdateToSwap}
 use Rattle.flash_flags.specs.SectorFlags.{flag_rank, flag_byte, half, flag_at}
 use Rattle.exchange.specs.declared.Area.TheVariants.{Boot, Update}
@@ -137,7 +136,7 @@ pub record ButFlags (g : Geometry) (f f' : Flash) : Type 0 where
 
 -- The flags of a flash read as those of a mark.
 abbrev pub ReadAs : Geometry → Flash → Mark → Type 0
-ReadAs g f k = (i : ℕ) → i < firmware g → flag_at g f.update i ≡ Known (flag_under k i)
+ReadAs g f k = (i : ℕ) → i < firmware g → flag_at g f.update i ≡ Some (flag_under k i)
 
 -- The flags read as those of the mark; nothing else is touched, and for odd m the unused half byte, which would be sector m's, stays.
 pub record OnlyFlags (g : Geometry) (f f' : Flash) (k : Mark) : Type 0 where

@@ -9,6 +9,7 @@ ghost use Rattle.mending.specs.OldImages.{place_of};
 use exchange::Area;
 use flash::SectorNumber;
 use flash_flags::{Flag, Leg};
+use std::cmp::Ordering;
 
 // Document 02's mark: where an exchange may have stood when its flags were lost. At a sector, whose flag shows the leg, with 0 before it
 // and F after it; or at its end, with all flags 0.
@@ -22,13 +23,11 @@ pub enum Mark {
 fn flag_beside(j: SectorNumber, leg: Leg, i: SectorNumber) -> Flag
     ensures { result ≡ flag_under (At j leg) i.0 }
 {
-    if i.0 < j.0 {
-        return Flag::Exchanged;
+    match i.0.cmp(&j.0) {
+        Ordering::Less => Flag::Exchanged,
+        Ordering::Equal => leg.flag(),
+        Ordering::Greater => Flag::Untouched,
     }
-    if i.0 == j.0 {
-        return leg.flag();
-    }
-    Flag::Untouched
 }
 
 impl Mark {
@@ -55,19 +54,12 @@ impl OldImage {
     pub fn place(self, flag: Flag) -> Area
         ensures { result ≡ place_of self flag }
     {
-        match self {
-            OldImage::Boot => match flag {
-                Flag::Untouched => Area::Boot,
-                Flag::Saved => Area::Boot,
-                Flag::Moved => Area::Update,
-                Flag::Exchanged => Area::Update,
-            },
-            OldImage::Update => match flag {
-                Flag::Untouched => Area::Update,
-                Flag::Saved => Area::Swap,
-                Flag::Moved => Area::Swap,
-                Flag::Exchanged => Area::Boot,
-            },
+        match (self, flag) {
+            (OldImage::Boot, Flag::Untouched | Flag::Saved) => Area::Boot,
+            (OldImage::Boot, Flag::Moved | Flag::Exchanged) => Area::Update,
+            (OldImage::Update, Flag::Untouched) => Area::Update,
+            (OldImage::Update, Flag::Saved | Flag::Moved) => Area::Swap,
+            (OldImage::Update, Flag::Exchanged) => Area::Boot,
         }
     }
 }

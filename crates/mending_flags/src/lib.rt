@@ -4,7 +4,6 @@
 ghost use Rattle.std.specs.Prelude.{◌≡◌, ◌*◌, ◌<◌};
 ghost use Rattle.flash.specs.Sizes.{firmware};
 ghost use Rattle.flash.specs.Sectors.{Partition};
-ghost use Rattle.mending.specs.Mending.{differs};
 ghost use Rattle.mending_flags.specs.Wrote.{Wrote};
 ghost use Rattle.mending_flags.specs.Inner.{set_pair, WrotePair};
 
@@ -24,14 +23,7 @@ fn write_pair(g: Geometry, update: &mut [u8], mark: Mark, n: usize)
     }
 }
 
-// How many bytes differ, where a byte was `before` and is `after`: one or none.
-fn count_changed(before: u8, after: u8) -> usize
-    ensures { result ≡ differs before after }
-{
-    if before == after { 0 } else { 1 }
-}
-
-// Writes the flag byte of the sectors 2 n and 2 n + 1. How many bytes differ then.
+// Writes the flag byte of the sectors 2 n and 2 n + 1. How many bytes differ then: one or none.
 fn write_byte(g: Geometry, update: &mut [u8], mark: Mark, n: usize) -> usize
     requires { (Partition g update.old) × (2 * n < firmware g) }
     ensures { WrotePair g mark n update.old update.new result }
@@ -39,7 +31,7 @@ fn write_byte(g: Geometry, update: &mut [u8], mark: Mark, n: usize) -> usize
     let at = flash_flags::flag_offset(g, SectorNumber(2 * n)).0;
     let before = update[at];
     write_pair(g, update, mark, n);
-    count_changed(before, update[at])
+    usize::from(update[at] != before)
 }
 
 // Writes the mark's flags. How many flag bytes differ then.
@@ -47,12 +39,9 @@ pub fn write_flags(g: Geometry, update: &mut [u8], mark: Mark) -> usize
     requires { Partition g update.old }
     ensures { Wrote g mark update.old update.new result }
 {
-    let bytes = (g.firmware_sectors() + 1) / 2;
     let mut count = 0;
-    let mut n = 0;
-    while n < bytes {
+    for n in 0..(g.firmware_sectors() + 1) / 2 {
         count += write_byte(g, update, mark, n);
-        n += 1;
     }
     count
 }

@@ -9,6 +9,7 @@ use lib.Dec.{ltb, lit<}
 use lib.ListN.{length, get_or, take, drop}
 use lib.Seq.{take-take}
 use borrow.Author.Tests.{lt-ltb, le-ltb, ltb-false}
+use Rattle.std.specs.Prelude.{Option, Some, None}
 use Rattle.numbers.specs.Answer.{Answer, gives, refused, then}
 use Rattle.digest_fips180.specs.Sha256.{H0, sha256}
 use Rattle.digest_sha256.specs.Parts.{hash_over}
@@ -34,9 +35,6 @@ use Rattle.mending.specs.Marks.{flag_under}
 use Rattle.mending.specs.OldImages.{place_of, old_sector, joined, old_partition, greater, fits_mark}
 use Rattle.mending.proofs.Images.{old_sector_length, old_firmware_length, old_firmware}
 use Rattle.mending_images.specs.declared.Claim.{Claim}
-use Rattle.mending_images.specs.declared.Claimed.{Claimed}
-use Rattle.mending_images.specs.declared.Claimed.TheVariants.{States, Nothing}
-use Rattle.mending_images.specs.declared.Claims.TheVariants.{Newer, No}
 use Rattle.mending_images.specs.Claims.{claim_at, claim_of, claim_in, newer_claim, claims_under, old_bytes, has_digest, have_digests, fits_by}
 use Rattle.mending_images.specs.Parts.{last_sector, hash_before, Lies}
 use Rattle.mending_images.proofs.Pieces.{drop_take}
@@ -48,10 +46,10 @@ use Rattle.mending_images.proofs.Hashed.{in_first}
 abbrev pub version_in : List ℕ → Answer ℕ
 version_in b = then (image_in b) (λ v. gives v.version)
 
-pub data Checked (b : List ℕ) : Claimed → Answer ℕ → Type 0 where
-  not_stated : (n p : ℕ) → Checked b Nothing (refused n p)
-  good : (c : Claim) → has_digest b c ≡ true → Checked b (States c) (gives c.version)
-  other : (c : Claim) (n p : ℕ) → has_digest b c ≡ false → Checked b (States c) (refused n p)
+pub data Checked (b : List ℕ) : Option Claim → Answer ℕ → Type 0 where
+  not_stated : (n p : ℕ) → Checked b None (refused n p)
+  good : (c : Claim) → has_digest b c ≡ true → Checked b (Some c) (gives c.version)
+  other : (c : Claim) (n p : ℕ) → has_digest b c ≡ false → Checked b (Some c) (refused n p)
 
 -- b has its first 256 bytes in common with h
 module _ (b h : List ℕ) (B : 256 ≤ length b) (H : 256 ≤ length h) (E : take 256 b ≡ take 256 h) where
@@ -88,7 +86,7 @@ module _ (b h : List ℕ) (B : 256 ≤ length b) (H : 256 ≤ length h) (E : tak
       ∙ ap₂ (λ (s t : Bool). cond s (refused 3 4) (cond t (gives (values_in h places)) (refused 9 256))) (too_large (values_in h places).size) (sym (stated_digest places e))
 
   by_tests : (places : List ℕ) (s t : Bool) → has_digest b (claim_at h places) ≡ t
-      → Checked b (cond s Nothing (States (claim_at h places))) (then (cond s (refused 3 4) (cond t (gives (values_in h places)) (refused 9 256))) (λ v. gives v.version))
+      → Checked b (cond s None (Some (claim_at h places))) (then (cond s (refused 3 4) (cond t (gives (values_in h places)) (refused 9 256))) (λ v. gives v.version))
   by_tests places true t e = not_stated 3 4
   by_tests places false true e = good (claim_at h places) e
   by_tests places false false e = other (claim_at h places) 9 256 e
@@ -105,28 +103,28 @@ module _ (b h : List ℕ) (B : 256 ≤ length b) (H : 256 ≤ length h) (E : tak
 
 -- ---- both images
 
-greater_by : (bu bb : List ℕ) {cu cb : Claimed} {au ab : Answer ℕ} → Checked bu cu au → Checked bb cb ab → greater au ab ≡ have_digests bu bb (newer_claim cu cb)
+greater_by : (bu bb : List ℕ) {cu cb : Option Claim} {au ab : Answer ℕ} → Checked bu cu au → Checked bb cb ab → greater au ab ≡ have_digests bu bb (newer_claim cu cb)
 greater_by bu bb (not_stated n p) y = refl
 greater_by bu bb (good u x) (not_stated n p) = refl
 greater_by bu bb (other u m q x) (not_stated n p) = refl
 greater_by bu bb (good u x) (good b y) = by (ltb b.version u.version)
   where
-    by : (t : Bool) → t ≡ have_digests bu bb (cond t (Newer u b) No)
+    by : (t : Bool) → t ≡ have_digests bu bb (cond t (Some (u, b)) None)
     by true = rw (x, y) refl
     by false = refl
 greater_by bu bb (good u x) (other b n p y) = by (ltb b.version u.version)
   where
-    by : (t : Bool) → false ≡ have_digests bu bb (cond t (Newer u b) No)
+    by : (t : Bool) → false ≡ have_digests bu bb (cond t (Some (u, b)) None)
     by true = rw (x, y) refl
     by false = refl
 greater_by bu bb (other u m q x) (good b y) = by (ltb b.version u.version)
   where
-    by : (t : Bool) → false ≡ have_digests bu bb (cond t (Newer u b) No)
+    by : (t : Bool) → false ≡ have_digests bu bb (cond t (Some (u, b)) None)
     by true = rw x refl
     by false = refl
 greater_by bu bb (other u m q x) (other b n p y) = by (ltb b.version u.version)
   where
-    by : (t : Bool) → false ≡ have_digests bu bb (cond t (Newer u b) No)
+    by : (t : Bool) → false ≡ have_digests bu bb (cond t (Some (u, b)) None)
     by true = rw x refl
     by false = refl
 
@@ -153,15 +151,15 @@ module _ (g : Geometry) (f : Flash) (S : Shaped g f) where
 
 -- ---- what is stated lies within
 
-claim_lies : (g : Geometry) (h : List ℕ) (c : Claim) → claim_in (firmware g * g.size) h ≡ States c → Lies g c
+claim_lies : (g : Geometry) (h : List ℕ) (c : Claim) → claim_in (firmware g * g.size) h ≡ Some c → Lies g c
 unfolding claim_in
 claim_lies g h c e = by (tag_places h) refl e
   where
-    by : (a : Answer (List ℕ)) → tag_places h ≡ a → claim_of (firmware g * g.size) h a ≡ States c → Lies g c
+    by : (a : Answer (List ℕ)) → tag_places h ≡ a → claim_of (firmware g * g.size) h a ≡ Some c → Lies g c
     by (refused n p) q z = absurd (let y : ◌≡◌ {A = ℕ} 0 1 = cc in omega arith)
     by (gives places) q z = tested (ltb (firmware g * g.size) (256 + (values_in h places).size)) refl z
       where
-        tested : (t : Bool) → ltb (firmware g * g.size) (256 + (values_in h places).size) ≡ t → cond t Nothing (States (claim_at h places)) ≡ States c → Lies g c
+        tested : (t : Bool) → ltb (firmware g * g.size) (256 + (values_in h places).size) ≡ t → cond t None (Some (claim_at h places)) ≡ Some c → Lies g c
         tested true l y = absurd (let x : ◌≡◌ {A = ℕ} 0 1 = cc in omega arith)
         tested false l y =
             let s : claim_at h places ≡ c = cc in
@@ -172,20 +170,21 @@ claim_lies g h c e = by (tag_places h) refl e
               digest = omega (arith, (located h places q).within.fits 2 (lit< tt));
             })
 
-pub claims_lie : (g : Geometry) (k : Mark) (f : Flash) (u b : Claim) → claims_under g k f ≡ Newer u b → (Lies g u) × (Lies g b)
+pub claims_lie : (g : Geometry) (k : Mark) (f : Flash) (u b : Claim) → claims_under g k f ≡ Some (u, b) → (Lies g u) × (Lies g b)
 unfolding claims_under
 claims_lie g k f u b e = by (claim_in (firmware g * g.size) (old_sector g Update k f 0)) (claim_in (firmware g * g.size) (old_sector g Boot k f 0)) refl refl e
   where
-    by : (x y : Claimed) → claim_in (firmware g * g.size) (old_sector g Update k f 0) ≡ x → claim_in (firmware g * g.size) (old_sector g Boot k f 0) ≡ y
-        → newer_claim x y ≡ Newer u b → (Lies g u) × (Lies g b)
-    by Nothing y p q z = absurd (let w : ◌≡◌ {A = ℕ} 0 1 = cc in omega arith)
-    by (States c) Nothing p q z = absurd (let w : ◌≡◌ {A = ℕ} 0 1 = cc in omega arith)
-    by (States c) (States d) p q z = tested (ltb d.version c.version) z
+    by : (x y : Option Claim) → claim_in (firmware g * g.size) (old_sector g Update k f 0) ≡ x → claim_in (firmware g * g.size) (old_sector g Boot k f 0) ≡ y
+        → newer_claim x y ≡ Some (u, b) → (Lies g u) × (Lies g b)
+    by None y p q z = absurd (let w : ◌≡◌ {A = ℕ} 0 1 = cc in omega arith)
+    by (Some c) None p q z = absurd (let w : ◌≡◌ {A = ℕ} 0 1 = cc in omega arith)
+    by (Some c) (Some d) p q z = tested (ltb d.version c.version) z
       where
-        tested : (t : Bool) → cond t (Newer c d) No ≡ Newer u b → (Lies g u) × (Lies g b)
+        tested : (t : Bool) → cond {A = Option (Claim × Claim)} t (Some (c, d)) None ≡ Some (u, b) → (Lies g u) × (Lies g b)
         tested true w =
-            let s : c ≡ u = cc in
-            let r : d ≡ b = cc in
+            let v : ◌≡◌ {A = Claim × Claim} (c, d) (u, b) = cc in
+            let s : c ≡ u = ap (λ (x : Claim × Claim). x.0) v in
+            let r : d ≡ b = ap (λ (x : Claim × Claim). x.1) v in
             (subst (Lies g) s (claim_lies g (old_sector g Update k f 0) c p), subst (Lies g) r (claim_lies g (old_sector g Boot k f 0) d q))
         tested false w = absurd (let x : ◌≡◌ {A = ℕ} 0 1 = cc in omega arith)
 

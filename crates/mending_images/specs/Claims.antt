@@ -1,6 +1,6 @@
 -- 01's "Image check" of the two old images that a mark shows, taken apart: what their headers state, which costs no digest, and then
 -- whether their digests are those that are stated.
-use Rattle.std.specs.Prelude.{Bool, false, cond, ◌&&◌, List, ℕ, ◌+◌, ◌-◌, ◌*◌, get_or, ltb}
+use Rattle.std.specs.Prelude.{Bool, false, cond, ◌&&◌, List, ℕ, ◌+◌, ◌-◌, ◌*◌, get_or, ltb, Option, Some, None}
 use Rattle.numbers.specs.Answer.{Answer, gives, refused}
 use Rattle.digest_fips180.specs.Sha256.{sha256}
 use Rattle.flash.specs.declared.Geometry.{Geometry}
@@ -14,10 +14,6 @@ use Rattle.mending.specs.declared.OldImage.{OldImage}
 use Rattle.mending.specs.declared.OldImage.TheVariants.{Boot, Update}
 use Rattle.mending.specs.OldImages.{old_sector, joined}
 use Rattle.mending_images.specs.declared.Claim.{Claim}
-use Rattle.mending_images.specs.declared.Claimed.{Claimed}
-use Rattle.mending_images.specs.declared.Claimed.TheVariants.{States, Nothing}
-use Rattle.mending_images.specs.declared.Claims.{Claims}
-use Rattle.mending_images.specs.declared.Claims.TheVariants.{Newer, No}
 
 -- What a header states whose tags stand at these places: its version, where the firmware behind it ends, and where the digest's tag
 -- begins.
@@ -25,25 +21,25 @@ abbrev pub claim_at : List ℕ → List ℕ → Claim
 claim_at h places = record { version = (values_in h places).version; end = 256 + (values_in h places).size; digest = get_or places 2 0 }
 
 -- A firmware that ends behind `limit` does not fit.
-abbrev pub claim_within : ℕ → Claim → Claimed
-claim_within limit c = cond (ltb limit c.end) Nothing (States c)
+abbrev pub claim_within : ℕ → Claim → Option Claim
+claim_within limit c = cond (ltb limit c.end) None (Some c)
 
-abbrev pub claim_of : ℕ → List ℕ → Answer (List ℕ) → Claimed
+abbrev pub claim_of : ℕ → List ℕ → Answer (List ℕ) → Option Claim
 claim_of limit h (gives places) = claim_within limit (claim_at h places)
-claim_of limit h (refused n p) = Nothing
+claim_of limit h (refused n p) = None
 
 -- What the header at the front of h states, where the reader takes it and the firmware fits.
-unfoldable pub claim_in : ℕ → List ℕ → Claimed
+unfoldable pub claim_in : ℕ → List ℕ → Option Claim
 claim_in limit h = claim_of limit h (tag_places h)
 
--- Both headers are taken, and UPDATE's version is greater.
-abbrev pub newer_claim : Claimed → Claimed → Claims
-newer_claim (States u) (States b) = cond (ltb b.version u.version) (Newer u b) No
-newer_claim (States u) Nothing = No
-newer_claim Nothing b = No
+-- Both headers are taken, and UPDATE's version is greater: UPDATE's and BOOT's claims.
+abbrev pub newer_claim : Option Claim → Option Claim → Option (Claim × Claim)
+newer_claim (Some u) (Some b) = cond (ltb b.version u.version) (Some (u, b)) None
+newer_claim (Some u) None = None
+newer_claim None b = None
 
 -- The headers stand in sector 0 of the old images; the firmware has to end before the trailer sector.
-unfoldable pub claims_under : Geometry → Mark → Flash → Claims
+unfoldable pub claims_under : Geometry → Mark → Flash → Option (Claim × Claim)
 claims_under g k f =
     newer_claim (claim_in (firmware g * g.size) (old_sector g Update k f 0)) (claim_in (firmware g * g.size) (old_sector g Boot k f 0))
 
@@ -60,10 +56,10 @@ unfoldable pub has_digest : List ℕ → Claim → Bool
 has_digest b c = same (sha256 (covered_by c b)) (bytes_at b (c.digest + 4) 32)
 
 -- Both have, by what the headers state: UPDATE's image in bu, and BOOT's in bb.
-abbrev pub have_digests : List ℕ → List ℕ → Claims → Bool
-have_digests bu bb (Newer u b) = has_digest bu u && has_digest bb b
-have_digests bu bb No = false
+abbrev pub have_digests : List ℕ → List ℕ → Option (Claim × Claim) → Bool
+have_digests bu bb (Some c) = has_digest bu c.0 && has_digest bb c.1
+have_digests bu bb None = false
 
 -- The mark fits, by the headers and the digests of the old images that it shows.
-abbrev pub fits_by : Geometry → Mark → Flash → Claims → Bool
+abbrev pub fits_by : Geometry → Mark → Flash → Option (Claim × Claim) → Bool
 fits_by g k f c = have_digests (old_bytes g Update k f) (old_bytes g Boot k f) c

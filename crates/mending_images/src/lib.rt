@@ -2,64 +2,26 @@
 // the digests, sector by sector.
 #![tactic(auto)]
 
-ghost use Rattle.std.specs.Prelude.{◌≡◌, ◌&&◌, ◌+◌, min, ◌≤◌, ◌<◌, length};
-ghost use Rattle.mending.specs.declared.OldImage.TheVariants.{Boot, Update};
-ghost use Rattle.mending_images.specs.declared.Claims.TheVariants.{Newer};
+ghost use Rattle.std.specs.Prelude.{◌≡◌, ◌+◌, ◌≤◌, ◌<◌, length};
 ghost use Rattle.flash.specs.Sizes.{firmware, Limits};
 ghost use Rattle.digest_fips180.specs.Sha256.{sha256};
-ghost use Rattle.flash.specs.Buffers.{lent, Shaped};
 ghost use Rattle.header_places.specs.Table.{document_table};
 ghost use Rattle.header_places.specs.Judging.{TagsFit};
 ghost use Rattle.exchange.specs.Operations.{get};
-ghost use Rattle.mending.specs.OldImages.{old_sector};
-ghost use Rattle.mending_images.specs.Claims.{claim_at, claim_within, claim_in, newer_claim, claims_under, old_bytes, covered_by, has_digest, fits_by};
-ghost use Rattle.mending_images.specs.Parts.{firmware_in, bytes_before, hash_before, Lies};
+ghost use Rattle.mending_images.specs.Claims.{claim_at, claim_within, claim_in, claims_under, covered_by, has_digest};
+ghost use Rattle.mending_images.specs.Parts.{firmware_in, bytes_before};
+ghost use Rattle.mending_images.specs.Lent.{lent_flash, sector_in, bytes_of, hash_of};
 
+mod claimed_image;
+mod flash_ref;
+
+pub use claimed_image::ClaimedImage;
 use exchange::Area;
 use flash::{Geometry, SectorNumber};
+pub use flash_ref::FlashRef;
 use header_places::ROWS;
+use header_tags::HEADER_LENGTH;
 use mending::{Mark, OldImage};
-use numbers::HeaderOutcome;
-
-// ---- the sectors of an old image
-
-// Sector i of an area.
-fn sector_in<'a>(
-    g: Geometry,
-    boot: &'a [u8],
-    update: &'a [u8],
-    swap: &'a [u8],
-    area: Area,
-    i: SectorNumber,
-) -> &'a [u8]
-    requires { (Shaped g (lent boot update swap)) × (i.0 < g.sectors) }
-    ensures { result.now ≡ get g area i.0 (lent boot.entry update.entry swap.entry) }
-{
-    let start = flash::offset_of(g, i).0;
-    let size = g.size;
-    match area {
-        Area::Boot => &boot[start..start + size],
-        Area::Update => &update[start..start + size],
-        Area::Swap => swap,
-    }
-}
-
-// Sector i of an old image, as the mark shows it.
-fn old_sector<'a>(
-    g: Geometry,
-    boot: &'a [u8],
-    update: &'a [u8],
-    swap: &'a [u8],
-    image: OldImage,
-    mark: Mark,
-    i: SectorNumber,
-) -> &'a [u8]
-    requires { (Shaped g (lent boot update swap)) × (i.0 < firmware g) }
-    ensures { result.now ≡ old_sector g image mark (lent boot.entry update.entry swap.entry) i.0 }
-{
-    let area = image.place(mark.flag_of(i));
-    sector_in(g, boot, update, swap, area, i)
-}
 
 // ---- what the headers state
 
@@ -71,26 +33,19 @@ pub struct Claim {
     pub digest: usize,
 }
 
-// What a header states, if it is taken.
-#[derive(Clone, Copy)]
-pub enum Claimed {
-    States(Claim),
-    Nothing,
-}
-
 // What a header states whose tags stand at these places, if its firmware ends at `limit` at the latest.
-fn claim_at(first: &[u8], places: [usize; ROWS], limit: usize) -> Claimed
+fn claim_at(first: &[u8], places: [usize; ROWS], limit: usize) -> Option<Claim>
     requires { (256 ≤ length first.now) × TagsFit document_table places 256 }
     ensures { result ≡ claim_within limit (claim_at first.now places) }
 {
-    let h = &first[..header_tags::HEADER_LENGTH];
+    let h = &first[..HEADER_LENGTH];
     let version = places[0];
     let digest = places[2];
-    let end = header_tags::HEADER_LENGTH + header_reader::read_u32(h, 4) as usize;
+    let end = HEADER_LENGTH + header_reader::read_u32(h, 4) as usize;
     if limit < end {
-        return Claimed::Nothing;
+        return None;
     }
-    Claimed::States(Claim {
+    Some(Claim {
         version: header_reader::read_u32(h, version + 4),
         end,
         digest,
@@ -98,77 +53,52 @@ fn claim_at(first: &[u8], places: [usize; ROWS], limit: usize) -> Claimed
 }
 
 // What the header at the front of an image states, if the reader takes it and its firmware ends at `limit` at the latest.
-fn read_claim(first: &[u8], limit: usize) -> Claimed
+fn read_claim(first: &[u8], limit: usize) -> Option<Claim>
     ensures { result ≡ claim_in limit first.now }
 {
-    let found = header_reader::locate(first);
-    let outcome = found.outcome;
-    let places = found.places;
-    if let HeaderOutcome::Accepted = outcome {
-        return claim_at(first, places, limit);
+    let places = header_reader::locate(first).ok()?;
+    claim_at(first, places, limit)
+}
+
+// ---- the sectors of an old image
+
+impl<'a> FlashRef<'a> {
+    // Sector i of an area.
+    fn sector(&self, area: Area, i: SectorNumber) -> &'a [u8]
+        requires { i.0 < self.now.geometry.sectors }
+        ensures { result.now ≡ get self.now.geometry area i.0 (lent_flash self.now) }
+    {
+        let start = flash::offset_of(self.geometry, i).0;
+        let size = self.geometry.size;
+        match area {
+            Area::Boot => &self.boot[start..start + size],
+            Area::Update => &self.update[start..start + size],
+            Area::Swap => self.swap,
+        }
     }
-    Claimed::Nothing
-}
 
-// What the headers of both old images state, UPDATE's first, if both are taken and UPDATE's version is greater.
-#[derive(Clone, Copy)]
-pub enum Claims {
-    Newer(Claim, Claim),
-    No,
-}
-
-// UPDATE's version is greater.
-fn compare_claims(u: Claimed, b: Claimed) -> Claims
-    ensures { result ≡ newer_claim u b }
-{
-    match u {
-        Claimed::States(x) => match b {
-            Claimed::States(y) => {
-                if y.version < x.version {
-                    return Claims::Newer(x, y);
-                }
-                Claims::No
-            }
-            Claimed::Nothing => Claims::No,
-        },
-        Claimed::Nothing => Claims::No,
+    // Sector i of an old image, as the mark shows it.
+    fn old_sector(&self, image: OldImage, mark: Mark, i: SectorNumber) -> &'a [u8]
+        requires { i.0 < firmware self.now.geometry }
+        ensures { result.now ≡ sector_in self.now image mark i.0 }
+    {
+        self.sector(image.place(mark.flag_of(i)), i)
     }
-}
 
-// What the headers of the two old images state under a mark.
-pub fn read_claims<'a>(
-    g: Geometry,
-    boot: &'a [u8],
-    update: &'a [u8],
-    swap: &'a [u8],
-    mark: Mark,
-) -> Claims
-    requires { Shaped g (lent boot update swap) }
-    ensures { result ≡ claims_under g mark (lent boot.entry update.entry swap.entry) }
-{
-    let limit = flash::offset_of(g, SectorNumber(g.firmware_sectors())).0;
-    let first = SectorNumber(0);
-    let u = read_claim(
-        old_sector(g, boot, update, swap, OldImage::Update, mark, first),
-        limit,
-    );
-    let b = read_claim(
-        old_sector(g, boot, update, swap, OldImage::Boot, mark, first),
-        limit,
-    );
-    compare_claims(u, b)
-}
-
-// ---- the digests
-
-// The smaller of a and b.
-fn least(a: usize, b: usize) -> usize
-    ensures { result ≡ min a b }
-{
-    if a < b {
-        return a;
+    // What the headers of both old images state under a mark, UPDATE's first, if both are taken and UPDATE's version is greater.
+    pub fn read_claims(&self, mark: Mark) -> Option<(Claim, Claim)>
+        ensures { result ≡ claims_under self.now.geometry mark (lent_flash self.now) }
+    {
+        let g = self.geometry;
+        let limit = flash::offset_of(g, SectorNumber(g.firmware_sectors())).0;
+        let first = SectorNumber(0);
+        let update = read_claim(self.old_sector(OldImage::Update, mark, first), limit)?;
+        let boot = read_claim(self.old_sector(OldImage::Boot, mark, first), limit)?;
+        if boot.version < update.version {
+            return Some((update, boot));
+        }
+        None
     }
-    b
 }
 
 // What sector i has of the bytes of an image from behind its header to place `end`.
@@ -177,175 +107,100 @@ fn firmware_in(g: Geometry, sector: &[u8], i: SectorNumber, end: usize) -> &[u8]
     ensures { result.now ≡ firmware_in g.size i.0 end sector.now }
 {
     let at = flash::offset_of(g, i).0;
-    if i.0 == 0 {
-        let to = least(end, sector.len());
-        return &sector[header_tags::HEADER_LENGTH..to];
-    }
-    if end < at {
-        return &sector[..0];
-    }
-    let to = least(end - at, sector.len());
-    &sector[..to]
+    let from = HEADER_LENGTH.saturating_sub(at);
+    let to = end.saturating_sub(at).min(sector.len());
+    &sector[from..to]
 }
 
-// What stands before the firmware of sector i and is in no hash value: in sector 0 the header's bytes before the digest's tag; before
-// another sector what is left of them, and of the firmware, behind the last whole block.
-#[tactic(auto, using(mending::proofs::Images::old_sector_length))]
-fn bytes_before<'a>(
-    g: Geometry,
-    boot: &'a [u8],
-    update: &'a [u8],
-    swap: &'a [u8],
-    image: OldImage,
-    mark: Mark,
-    i: SectorNumber,
-    digest: usize,
-) -> &'a [u8]
-    requires { (Shaped g (lent boot update swap)) × (i.0 < firmware g) × (digest ≤ 220) }
-    ensures { result.now ≡ bytes_before g image mark (lent boot.entry update.entry swap.entry) digest i.0 }
-{
-    if i.0 == 0 {
-        let first = old_sector(g, boot, update, swap, image, mark, i);
-        return &first[..digest];
-    }
-    let before = old_sector(g, boot, update, swap, image, mark, SectorNumber(i.0 - 1));
-    let n = digest % 64;
-    if flash::offset_of(g, i).0 == header_tags::HEADER_LENGTH {
-        return &before[digest - n..digest];
-    }
-    &before[g.size - n..]
-}
+// ---- the digests
 
-// The hash value that has taken in sector i of an old image too. The sector in which the firmware ends is left to the digest.
-pub fn hash_sector<'a>(
-    g: Geometry,
-    boot: &'a [u8],
-    update: &'a [u8],
-    swap: &'a [u8],
-    image: OldImage,
-    mark: Mark,
-    i: SectorNumber,
-    claim: Claim,
-    h: [u32; 8],
-) -> [u32; 8]
-    requires { (Shaped g (lent boot update swap)) × (i.0 < firmware g) × (Lies g claim)
-        × (h ≡ hash_before g image mark (lent boot update swap) claim i.0) }
-    ensures { result ≡ hash_before g image mark (lent boot.entry update.entry swap.entry) claim (i.0 + 1) }
-{
-    let end = claim.end;
-    if (end - 1) / g.size <= i.0 {
-        return h;
+impl<'a> ClaimedImage<'a> {
+    // Sector i, as the mark shows it.
+    fn sector(&self, mark: Mark, i: SectorNumber) -> &'a [u8]
+        requires { i.0 < firmware self.now.flash.geometry }
+        ensures { result.now ≡ sector_in self.now.flash self.now.image mark i.0 }
+    {
+        self.flash.old_sector(self.image, mark, i)
     }
-    let before = bytes_before(g, boot, update, swap, image, mark, i, claim.digest);
-    let sector = old_sector(g, boot, update, swap, image, mark, i);
-    digest_sha256::hash_of_two(h, before, firmware_in(g, sector, i, end))
-}
 
-// The hash value that has taken in all sectors of an old image before the one in which its firmware ends. d has taken in those before
-// `start`.
-fn hash_rest<'a>(
-    g: Geometry,
-    boot: &'a [u8],
-    update: &'a [u8],
-    swap: &'a [u8],
-    image: OldImage,
-    mark: Mark,
-    start: SectorNumber,
-    claim: Claim,
-    d: [u32; 8],
-) -> [u32; 8]
-    requires { (Shaped g (lent boot update swap)) × (start.0 ≤ firmware g) × (Lies g claim)
-        × (d ≡ hash_before g image mark (lent boot update swap) claim start.0) }
-    ensures { result ≡ hash_before g image mark (lent boot.entry update.entry swap.entry) claim (firmware g) }
-{
-    let m = g.firmware_sectors();
-    let mut h = d;
-    let mut i = start.0;
-    while i < m {
-        let x = hash_sector(
-            g,
-            boot,
-            update,
-            swap,
-            image,
-            mark,
-            SectorNumber(i),
-            claim,
+    // What sector i has of the firmware.
+    fn firmware(&self, mark: Mark, i: SectorNumber) -> &'a [u8]
+        requires { i.0 < firmware self.now.flash.geometry }
+        ensures { result.now ≡ firmware_in self.now.flash.geometry.size i.0 self.now.claim.end (sector_in self.now.flash self.now.image mark i.0) }
+    {
+        firmware_in(self.flash.geometry, self.sector(mark, i), i, self.claim.end)
+    }
+
+    // What stands before the firmware of sector i and is in no hash value: in sector 0 the header's bytes before the digest's tag; before
+    // another sector what is left of them, and of the firmware, behind the last whole block.
+    #[tactic(auto, using(mending::proofs::Images::old_sector_length))]
+    fn bytes_before(&self, mark: Mark, i: SectorNumber) -> &'a [u8]
+        requires { i.0 < firmware self.now.flash.geometry }
+        ensures { result.now ≡ bytes_before self.now.flash.geometry self.now.image mark (lent_flash self.now.flash) self.now.claim.digest i.0 }
+    {
+        let g = self.flash.geometry;
+        let digest = self.claim.digest;
+        if i.0 == 0 {
+            let first = self.sector(mark, i);
+            return &first[..digest];
+        }
+        let before = self.sector(mark, SectorNumber(i.0 - 1));
+        let n = digest % 64;
+        if flash::offset_of(g, i).0 == HEADER_LENGTH {
+            return &before[digest - n..digest];
+        }
+        &before[g.size - n..]
+    }
+
+    // The hash value that has taken in sector i too. The sector in which the firmware ends is left to the digest.
+    pub fn hash_sector(&self, mark: Mark, i: SectorNumber, h: [u32; 8]) -> [u32; 8]
+        requires { (i.0 < firmware self.now.flash.geometry) × (h ≡ hash_of self.now mark i.0) }
+        ensures { result ≡ hash_of self.now mark (i.0 + 1) }
+    {
+        if (self.claim.end - 1) / self.flash.geometry.size <= i.0 {
+            return h;
+        }
+        digest_sha256::hash_of_two(h, self.bytes_before(mark, i), self.firmware(mark, i))
+    }
+
+    // The hash value that has taken in all sectors before the one in which the firmware ends. d has taken in those before `start`.
+    fn hash_rest(&self, mark: Mark, start: SectorNumber, d: [u32; 8]) -> [u32; 8]
+        requires { (start.0 ≤ firmware self.now.flash.geometry) × (d ≡ hash_of self.now mark start.0) }
+        ensures { result ≡ hash_of self.now mark (firmware self.now.flash.geometry) }
+    {
+        let mut h = d;
+        for i in start.0..self.flash.geometry.firmware_sectors() {
+            let next = self.hash_sector(mark, SectorNumber(i), h);
+            h = next;
+        }
+        h
+    }
+
+    // The digest of what the image's digest covers. h has taken in the sectors before the one in which the firmware ends.
+    fn end_digest(&self, mark: Mark, h: [u32; 8]) -> [u8; 32]
+        requires { h ≡ hash_of self.now mark (firmware self.now.flash.geometry) }
+        ensures { result ≡ sha256 (covered_by self.now.claim (bytes_of self.now mark)) }
+    {
+        let end = self.claim.end;
+        let last = SectorNumber((end - 1) / self.flash.geometry.size);
+        let count = (self.claim.digest + end - HEADER_LENGTH) as u64;
+        digest_sha256::digest_from_two(
             h,
-        );
-        h = x;
-        i += 1;
+            self.bytes_before(mark, last),
+            self.firmware(mark, last),
+            count,
+        )
     }
-    h
-}
 
-// The digest of what an old image's digest covers. h has taken in the sectors before the one in which the firmware ends.
-fn end_digest<'a>(
-    g: Geometry,
-    boot: &'a [u8],
-    update: &'a [u8],
-    swap: &'a [u8],
-    image: OldImage,
-    mark: Mark,
-    claim: Claim,
-    h: [u32; 8],
-) -> [u8; 32]
-    requires { (Shaped g (lent boot update swap)) × (Lies g claim)
-        × (h ≡ hash_before g image mark (lent boot update swap) claim (firmware g)) }
-    ensures { result ≡ sha256 (covered_by claim (old_bytes g image mark (lent boot.entry update.entry swap.entry))) }
-{
-    let end = claim.end;
-    let last = SectorNumber((end - 1) / g.size);
-    let before = bytes_before(g, boot, update, swap, image, mark, last, claim.digest);
-    let sector = old_sector(g, boot, update, swap, image, mark, last);
-    let count = (claim.digest + end - header_tags::HEADER_LENGTH) as u64;
-    digest_sha256::digest_from_two(h, before, firmware_in(g, sector, last, end), count)
-}
-
-// An old image has the digest that its header states. d has taken in the sectors before `start`.
-fn has_digest<'a>(
-    g: Geometry,
-    boot: &'a [u8],
-    update: &'a [u8],
-    swap: &'a [u8],
-    image: OldImage,
-    mark: Mark,
-    start: SectorNumber,
-    claim: Claim,
-    d: [u32; 8],
-) -> bool
-    requires { (Shaped g (lent boot update swap)) × (start.0 ≤ firmware g) × (Lies g claim)
-        × (d ≡ hash_before g image mark (lent boot update swap) claim start.0) }
-    ensures { result ≡ has_digest (old_bytes g image mark (lent boot.entry update.entry swap.entry)) claim }
-{
-    let h = hash_rest(g, boot, update, swap, image, mark, start, claim, d);
-    let digest = end_digest(g, boot, update, swap, image, mark, claim, h);
-    let first = old_sector(g, boot, update, swap, image, mark, SectorNumber(0));
-    let at = claim.digest + 4;
-    digest.as_slice() == &first[at..at + 32]
-}
-
-// Both old images have the digests that their headers state, UPDATE's claim u and BOOT's b. d and e have taken in UPDATE's and BOOT's
-// sectors before `start`.
-pub fn have_digests<'a>(
-    g: Geometry,
-    boot: &'a [u8],
-    update: &'a [u8],
-    swap: &'a [u8],
-    mark: Mark,
-    start: SectorNumber,
-    u: Claim,
-    b: Claim,
-    d: [u32; 8],
-    e: [u32; 8],
-) -> bool
-    requires { (Shaped g (lent boot update swap)) × (start.0 ≤ firmware g) × (Lies g u) × (Lies g b)
-        × (d ≡ hash_before g Update mark (lent boot update swap) u start.0)
-        × (e ≡ hash_before g Boot mark (lent boot update swap) b start.0) }
-    ensures { result ≡ fits_by g mark (lent boot.entry update.entry swap.entry) (Newer u b) }
-{
-    if has_digest(g, boot, update, swap, OldImage::Update, mark, start, u, d) {
-        return has_digest(g, boot, update, swap, OldImage::Boot, mark, start, b, e);
+    // The image has the digest that its header states. d has taken in the sectors before `start`.
+    pub fn has_digest(&self, mark: Mark, start: SectorNumber, d: [u32; 8]) -> bool
+        requires { (start.0 ≤ firmware self.now.flash.geometry) × (d ≡ hash_of self.now mark start.0) }
+        ensures { result ≡ has_digest (bytes_of self.now mark) self.now.claim }
+    {
+        let h = self.hash_rest(mark, start, d);
+        let digest = self.end_digest(mark, h);
+        let first = self.sector(mark, SectorNumber(0));
+        let at = self.claim.digest + 4;
+        digest.as_slice() == &first[at..at + 32]
     }
-    false
 }

@@ -2,34 +2,26 @@
 // sectors before the mark are carried from mark to mark.
 #![tactic(auto)]
 
-ghost use Rattle.std.specs.Prelude.{◌≡◌, ◌+◌, ◌*◌, ◌/◌, ◌≤◌};
+ghost use Rattle.std.specs.Prelude.{◌≡◌, ◌+◌, ◌*◌, ◌/◌, ◌≤◌, Some};
 ghost use Rattle.numbers.specs.Answer.{refused};
 ghost use Rattle.flash.specs.Sizes.{firmware};
-ghost use Rattle.flash.specs.Buffers.{lent, Shaped};
 ghost use Rattle.image.specs.Verdict.{check_of};
 ghost use Rattle.mending.specs.declared.Mark.TheVariants.{All0};
 ghost use Rattle.mending.specs.Marks.{Among, moves_of, marks};
 ghost use Rattle.mending.specs.OldImages.{fits_mark};
 ghost use Rattle.mending.specs.Mending.{first_fitting};
-ghost use Rattle.mending_images.specs.declared.Claims.TheVariants.{Newer};
 ghost use Rattle.mending_images.specs.Claims.{claims_under};
-ghost use Rattle.mending_images.specs.Parts.{hash_before, Lies};
+ghost use Rattle.mending_images.specs.Lent.{lent_flash, hash_of};
 ghost use Rattle.mending_search.specs.Search.{first_from, found_or};
 
-use flash::{Geometry, SectorNumber};
+use digest_sha256::H0;
+use flash::SectorNumber;
 use flash_flags::Leg;
 use mending::{Mark, OldImage};
-use mending_images::{Claim, Claims};
+use mending_images::{Claim, ClaimedImage, FlashRef};
 
 // How many marks each sector has: F, 7 and 3.
 const LEGS: usize = 3;
-
-// The first mark that fits, if any does.
-#[derive(Clone, Copy)]
-pub enum FoundMark {
-    First(Mark),
-    None,
-}
 
 // The mark of m firmware sectors that has `moves` moves behind it.
 fn mark_after(m: usize, moves: usize) -> Mark
@@ -40,153 +32,108 @@ fn mark_after(m: usize, moves: usize) -> Mark
     if i == m {
         return Mark::All0;
     }
-    let leg = moves % LEGS;
-    if leg == 0 {
-        return Mark::At(SectorNumber(i), Leg::UpdateToSwap);
-    }
-    if leg == 1 {
-        return Mark::At(SectorNumber(i), Leg::BootToUpdate);
-    }
-    Mark::At(SectorNumber(i), Leg::SwapToBoot)
+    let leg = match moves % LEGS {
+        0 => Leg::UpdateToSwap,
+        1 => Leg::BootToUpdate,
+        _ => Leg::SwapToBoot,
+    };
+    Mark::At(SectorNumber(i), leg)
 }
 
 // ---- the marks of sector 0
 
 // The mark fits.
-fn fits<'a>(g: Geometry, boot: &'a [u8], update: &'a [u8], swap: &'a [u8], mark: Mark) -> bool
-    requires { Shaped g (lent boot update swap) }
-    ensures { result ≡ fits_mark check_of g (lent boot.entry update.entry swap.entry) mark }
+fn fits(flash: FlashRef, mark: Mark) -> bool
+    ensures { result ≡ fits_mark check_of flash.entry.geometry (lent_flash flash.entry) mark }
 {
-    match mending_images::read_claims(g, boot, update, swap, mark) {
-        Claims::Newer(u, b) => mending_images::have_digests(
-            g,
-            boot,
-            update,
-            swap,
-            mark,
-            SectorNumber(0),
-            u,
-            b,
-            digest_sha256::H0,
-            digest_sha256::H0,
-        ),
-        Claims::No => false,
+    match flash.read_claims(mark) {
+        Some((u, b)) => {
+            let update = ClaimedImage {
+                flash,
+                image: OldImage::Update,
+                claim: u,
+            };
+            let boot = ClaimedImage {
+                flash,
+                image: OldImage::Boot,
+                claim: b,
+            };
+            let first = SectorNumber(0);
+            update.has_digest(mark, first, H0) && boot.has_digest(mark, first, H0)
+        }
+        None => false,
     }
 }
 
 // The first of the marks of sector 0 that fits. Each has headers of its own.
-fn search_first<'a>(g: Geometry, boot: &'a [u8], update: &'a [u8], swap: &'a [u8]) -> FoundMark
-    requires { Shaped g (lent boot update swap) }
-    ensures { found_or result (first_from 3 g (lent boot.entry update.entry swap.entry))
-        ≡ first_from 0 g (lent boot.entry update.entry swap.entry) }
+fn search_first(flash: FlashRef) -> Option<Mark>
+    ensures { found_or result (first_from 3 flash.entry.geometry (lent_flash flash.entry))
+        ≡ first_from 0 flash.entry.geometry (lent_flash flash.entry) }
 {
-    let m = g.firmware_sectors();
-    let mut moves = 0;
-    while moves < LEGS {
+    let m = flash.geometry.firmware_sectors();
+    for moves in 0..LEGS {
         let mark = mark_after(m, moves);
-        if fits(g, boot, update, swap, mark) {
-            return FoundMark::First(mark);
+        if fits(flash, mark) {
+            return Some(mark);
         }
-        moves += 1;
     }
-    FoundMark::None
+    None
 }
 
 // ---- the marks behind sector 0
 
 // The hash value for the next mark: behind the last mark of a sector it takes in that sector, which is exchanged under all later marks.
-fn hash_on<'a>(
-    g: Geometry,
-    boot: &'a [u8],
-    update: &'a [u8],
-    swap: &'a [u8],
-    image: OldImage,
-    moves: usize,
-    claim: Claim,
-    h: [u32; 8],
-) -> [u32; 8]
-    requires { (Shaped g (lent boot update swap)) × (moves ≤ 3 * firmware g) × (Lies g claim)
-        × (h ≡ hash_before g image All0 (lent boot update swap) claim (moves / 3)) }
-    ensures { result ≡ hash_before g image All0 (lent boot.entry update.entry swap.entry) claim ((moves + 1) / 3) }
+fn hash_on(old: &ClaimedImage, moves: usize, h: [u32; 8]) -> [u32; 8]
+    requires { (moves ≤ 3 * firmware old.now.flash.geometry) × (h ≡ hash_of old.now All0 (moves / 3)) }
+    ensures { result ≡ hash_of old.now All0 ((moves + 1) / 3) }
 {
     if moves % LEGS == LEGS - 1 {
-        return mending_images::hash_sector(
-            g,
-            boot,
-            update,
-            swap,
-            image,
-            Mark::All0,
-            SectorNumber(moves / LEGS),
-            claim,
-            h,
-        );
+        return old.hash_sector(Mark::All0, SectorNumber(moves / LEGS), h);
     }
     h
 }
 
 // The first of the marks behind sector 0 that fits, by the claims of their headers: UPDATE's u, and BOOT's b.
-fn search_behind<'a>(
-    g: Geometry,
-    boot: &'a [u8],
-    update: &'a [u8],
-    swap: &'a [u8],
-    u: Claim,
-    b: Claim,
-) -> FoundMark
-    requires { (Shaped g (lent boot update swap)) × (claims_under g All0 (lent boot update swap) ≡ Newer u b) }
-    ensures { found_or result (refused 17 0) ≡ first_from 3 g (lent boot.entry update.entry swap.entry) }
+fn search_behind(flash: FlashRef, u: Claim, b: Claim) -> Option<Mark>
+    requires { claims_under flash.geometry All0 (lent_flash flash) ≡ Some (u, b) }
+    ensures { found_or result (refused 17 0) ≡ first_from 3 flash.entry.geometry (lent_flash flash.entry) }
 {
-    let m = g.firmware_sectors();
-    let last = LEGS * m;
+    let update = ClaimedImage {
+        flash,
+        image: OldImage::Update,
+        claim: u,
+    };
+    let boot = ClaimedImage {
+        flash,
+        image: OldImage::Boot,
+        claim: b,
+    };
+    let m = flash.geometry.firmware_sectors();
     let start = LEGS - 1;
-    let mut d = hash_on(
-        g,
-        boot,
-        update,
-        swap,
-        OldImage::Update,
-        start,
-        u,
-        digest_sha256::H0,
-    );
-    let mut e = hash_on(
-        g,
-        boot,
-        update,
-        swap,
-        OldImage::Boot,
-        start,
-        b,
-        digest_sha256::H0,
-    );
-    let mut moves = LEGS;
-    while moves <= last {
+    let mut d = hash_on(&update, start, H0);
+    let mut e = hash_on(&boot, start, H0);
+    for moves in LEGS..=LEGS * m {
         let mark = mark_after(m, moves);
         let i = SectorNumber(moves / LEGS);
-        if mending_images::have_digests(g, boot, update, swap, mark, i, u, b, d, e) {
-            return FoundMark::First(mark);
+        if update.has_digest(mark, i, d) && boot.has_digest(mark, i, e) {
+            return Some(mark);
         }
-        let x = hash_on(g, boot, update, swap, OldImage::Update, moves, u, d);
-        let y = hash_on(g, boot, update, swap, OldImage::Boot, moves, b, e);
+        let x = hash_on(&update, moves, d);
+        let y = hash_on(&boot, moves, e);
         d = x;
         e = y;
-        moves += 1;
     }
-    FoundMark::None
+    None
 }
 
 // The first mark that fits. Behind sector 0 none does where the headers do not.
-pub fn first_fitting<'a>(g: Geometry, boot: &'a [u8], update: &'a [u8], swap: &'a [u8]) -> FoundMark
-    requires { Shaped g (lent boot update swap) }
+pub fn first_fitting(flash: FlashRef) -> Option<Mark>
     ensures { found_or result (refused 17 0)
-        ≡ first_fitting (fits_mark check_of g (lent boot.entry update.entry swap.entry)) (marks (firmware g)) }
+        ≡ first_fitting (fits_mark check_of flash.entry.geometry (lent_flash flash.entry)) (marks (firmware flash.entry.geometry)) }
 {
-    match search_first(g, boot, update, swap) {
-        FoundMark::First(mark) => FoundMark::First(mark),
-        FoundMark::None => match mending_images::read_claims(g, boot, update, swap, Mark::All0) {
-            Claims::Newer(u, b) => search_behind(g, boot, update, swap, u, b),
-            Claims::No => FoundMark::None,
-        },
+    if let Some(mark) = search_first(flash) {
+        return Some(mark);
     }
+    let (u, b) = flash.read_claims(Mark::All0)?;
+    search_behind(flash, u, b)
 }

@@ -58,6 +58,12 @@ writes : (h : Header) (out : List ℕ) → 256 ≤ length out → (h.size ≡ 0 
 unfolding write_header
 writes h out a s = simp (le-ltb _ _ a, ne_eqb _ _ s)
 
+-- a header with a size is never refused where there is room
+pub never : (h : Header) (out : List ℕ) {n p : ℕ} {l : List ℕ} → 256 ≤ length out → (h.size ≡ 0 → ⊥) → write (refused n p) l ≡ write_header h out → ⊥
+never h out {n} {p} a s e =
+    let z : refused n p ≡ gives tt = ap (λ (w : Write). w.answer) (e ∙ writes h out a s) in
+    cc
+
 module _ (v : Stated) (f out : List ℕ) (room : 256 ≤ length out) (some : length f ≡ 0 → ⊥)
     (s64 : length v.signature ≡ 64) (h32 : length v.hint ≡ 32) where
   abbrev zeros : List ℕ

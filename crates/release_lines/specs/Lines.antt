@@ -1,11 +1,12 @@
 -- A release sheet's lines: how a text is cut into them, and what one line says. Text is ASCII codes.
-use Rattle.std.specs.Prelude.{◌≡◌, ℕ, suc, ◌+◌, ◌-◌, ◌^◌, ◌≤◌, ◌<◌, List, [], ◌∷◌, Bool, true, false, cond, ◌||◌, length, get_or, take, drop, eqb}
+use Rattle.std.specs.Prelude.{◌≡◌, ℕ, suc, ◌+◌, ◌-◌, ◌^◌, ◌≤◌, ◌<◌, List, [], ◌∷◌, Bool, true, false, cond, ◌||◌, length, get_or, take, drop, eqb, Option, Some, None, Result, Ok}
 use Rattle.header_tags.specs.Bytes.{same}
-use Rattle.numbers.specs.Answer.{Answer, gives, refused}
+use Rattle.numbers.specs.Answer.{Answer, gives, refused, then}
+use Rattle.numbers.specs.GivenBack.{sheet_answer}
+use Rattle.numbers.specs.declared.SheetRefusal.{SheetRefusal}
 use Rattle.release_digits.specs.Digits.{decimal_up_to, hex_digits}
 use Rattle.release_lines.specs.Search.{index_of}
-use Rattle.release_lines.specs.declared.Line.{Line}
-use Rattle.release_lines.specs.declared.Line.TheVariants.{Passed, Value, NotUnderstood, UnknownName, BadValue}
+use Rattle.release_lines.specs.declared.Value.{Value}
 
 -- ---- lines
 
@@ -101,22 +102,12 @@ line_of n l =
 
 -- ---- what the reader of a line hands out
 
--- The answer by the code's cases, for a line l of number n. Of a value the row is told, and at which place of the line it begins.
-abbrev pub line_says : ℕ → List ℕ → Line → Answer Entry
-line_says n l Passed = gives nothing
-line_says n l (Value row from) = gives (value row (drop from l))
-line_says n l NotUnderstood = refused 101 n
-line_says n l UnknownName = refused 102 n
-line_says n l BadValue = refused 103 n
+-- Nothing, or a value's row and at which place of the line it begins.
+abbrev pub entry_of : List ℕ → Option Value → Entry
+entry_of l None = nothing
+entry_of l (Some v) = value v.row (drop v.from l)
 
-abbrev pub ValueWithin : List ℕ → Line → Type 0
-ValueWithin l Passed = Unit {0}
-ValueWithin l (Value row from) = (row < 5) × (0 < from) × (from ≤ length l)
-ValueWithin l NotUnderstood = Unit {0}
-ValueWithin l UnknownName = Unit {0}
-ValueWithin l BadValue = Unit {0}
-
--- Both: what is told, whatever the line's number, and that the value begins within the line, behind its first byte.
-pub record LineRead (l : List ℕ) (r : Line) : Type 0 where
-  pub says : (n : ℕ) → line_says n l r ≡ line_of n l
-  pub within : ValueWithin l r
+-- Of line number n, l: what it says, and that a value begins within the line, behind its first byte.
+pub record LineRead (n : ℕ) (l : List ℕ) (r : Result (Option Value) SheetRefusal) : Type 0 where
+  pub says : then (sheet_answer r) (λ v. gives (entry_of l v)) ≡ line_of n l
+  pub within : (v : Value) → r ≡ Ok (Some v) → (v.row < 5) × (0 < v.from) × (v.from ≤ length l)

@@ -1,84 +1,67 @@
 // One line of a release sheet: a name and its value.
 #![tactic(auto)]
 
-ghost use Rattle.std.specs.Prelude.{◌≡◌, ◌+◌, ◌≤◌, length, drop};
+ghost use Rattle.std.specs.Prelude.{◌≡◌, ◌+◌, ◌<◌, ◌≤◌, length, drop, SomeIff};
 ghost use Rattle.release_lines.specs.Search.{index_of};
 ghost use Rattle.release_lines.specs.Lines.{names, row_named, is_hint, well_formed, LineRead};
+
+use numbers::SheetRefusal;
 
 // How many names a sheet has. Their rows are in the order of the types that their values have in a header.
 pub const ROWS: usize = 5;
 
+const NAMES: [&str; ROWS] = ["version", "timestamp", "signature", "auth", "hint"];
+
 // The largest numbers of 32, 64 and 16 bits.
-pub const LARGEST_VERSION: u64 = 4294967295;
+pub const LARGEST_VERSION: u64 = u32::MAX as u64;
 
-pub const LARGEST_TIMESTAMP: u64 = 18446744073709551615;
+pub const LARGEST_TIMESTAMP: u64 = u64::MAX;
 
-pub const LARGEST_AUTH_TYPE: u64 = 65535;
+pub const LARGEST_AUTH_TYPE: u64 = u16::MAX as u64;
 
-// What a line says.
-#[derive(Clone, Copy)]
-pub enum Line {
-    // An empty line or a comment.
-    Passed,
-    // The value of a row, and at which place of the line it begins.
-    Value(usize, usize),
-    NotUnderstood,
-    UnknownName,
-    BadValue,
+// A line that begins with it is a comment.
+const COMMENT: u8 = b'#';
+
+// The value of a row, and at which place of the line it begins.
+#[derive(Clone, Copy, PartialEq, Eq)]
+pub struct Value {
+    pub row: usize,
+    pub from: usize,
 }
 
-// The row of a name, or the number of rows.
-fn row_of(name: &[u8]) -> usize
-    ensures { result ≡ row_named names name.now }
+// The row of a name.
+fn row_of(name: &[u8]) -> Option<usize>
+    ensures { SomeIff result (row_named names name.now < 5) (row_named names name.now) }
 {
-    if name == b"version".as_slice() {
-        return 0;
-    }
-    if name == b"timestamp".as_slice() {
-        return 1;
-    }
-    if name == b"signature".as_slice() {
-        return 2;
-    }
-    if name == b"auth".as_slice() {
-        return 3;
-    }
-    if name == b"hint".as_slice() {
-        return 4;
-    }
-    ROWS
+    NAMES.iter().position(|n| name == n.as_bytes())
 }
 
 // Whether a hint's value is "no" or 64 hexadecimal digits.
 fn is_hint(s: &[u8]) -> bool
     ensures { result ≡ is_hint s.now }
 {
-    if s == b"no".as_slice() {
-        return true;
-    }
-    release_digits::is_hex(s, 64)
+    s == b"no".as_slice() || release_digits::is_hex(s, 64)
 }
 
 // Whether a value passes its row's test.
 fn is_value(row: usize, s: &[u8]) -> bool
     ensures { result ≡ well_formed row s.now }
 {
-    if row == 0 {
-        return release_digits::decimal(s, LARGEST_VERSION).taken;
+    match row {
+        0 => release_digits::decimal(s, LARGEST_VERSION).is_some(),
+        1 => release_digits::decimal(s, LARGEST_TIMESTAMP).is_some(),
+        2 => release_digits::is_hex(s, 128),
+        3 => release_digits::decimal(s, LARGEST_AUTH_TYPE).is_some(),
+        4 => is_hint(s),
+        _ => false,
     }
-    if row == 1 {
-        return release_digits::decimal(s, LARGEST_TIMESTAMP).taken;
-    }
-    if row == 2 {
-        return release_digits::is_hex(s, 128);
-    }
-    if row == 3 {
-        return release_digits::decimal(s, LARGEST_AUTH_TYPE).taken;
-    }
-    if row == 4 {
-        return is_hint(s);
-    }
-    false
+}
+
+// The first place of b in a text.
+fn place_of(text: &[u8], b: u8) -> Option<usize>
+    ensures { SomeIff result (index_of b text.now < length text.now) (index_of b text.now) }
+{
+    text.iter().position(|c| *c == b)
 }
 
 // The first place of b from a place of the text on, or the text's length.
@@ -87,37 +70,24 @@ pub fn find(text: &[u8], from: usize, b: u8) -> usize
     ensures place { result ≡ from + index_of b (drop from text.now) }
     ensures within { result ≤ length text.now }
 {
-    let mut i = from;
-    while i < text.len() {
-        if text[i] == b {
-            return i;
-        }
-        i += 1;
+    match place_of(&text[from..], b) {
+        Some(n) => from + n,
+        None => text.len(),
     }
-    i
 }
 
-// Reads one line.
-pub fn read_line(l: &[u8]) -> Line
-    ensures { LineRead l.now result }
+// Reads one line, of this number. An empty line or a comment has no value.
+pub fn read_line(l: &[u8], number: usize) -> Result<Option<Value>, SheetRefusal>
+    ensures { LineRead number l.now result }
 {
-    if l.len() == 0 {
-        return Line::Passed;
+    if l.is_empty() || l[0] == COMMENT {
+        return Ok(None);
     }
-    if l[0] == 35 {
-        return Line::Passed;
-    }
-    let space = find(l, 0, 32);
-    if space == l.len() {
-        return Line::NotUnderstood;
-    }
-    let row = row_of(&l[..space]);
-    if row == ROWS {
-        return Line::UnknownName;
-    }
+    let space = place_of(l, b' ').ok_or(SheetRefusal::NotUnderstood(number))?;
+    let row = row_of(&l[..space]).ok_or(SheetRefusal::UnknownName(number))?;
     let from = space + 1;
-    if is_value(row, &l[from..]) {
-        return Line::Value(row, from);
+    if !is_value(row, &l[from..]) {
+        return Err(SheetRefusal::BadValue(number));
     }
-    Line::BadValue
+    Ok(Some(Value { row, from }))
 }

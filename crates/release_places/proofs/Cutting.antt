@@ -3,14 +3,14 @@ use mathlib.Core.Path.{◌≡◌, refl, ap, ◌∙◌}
 use Prim.Native.Nat.{ℕ, zero, suc, ◌+◌, ◌-◌, ◌≤◌, ◌<◌}
 use mathlib.Core.List.{List, [], ◌∷◌, map}
 use mathlib.Core.Option.{none, some}
-use mathlib.Core.Bool.{Bool, true, false, cond}
+use mathlib.Core.Bool.{Bool, true, false, cond, not}
 use native.Mathlib.Omega.{arith}
 use native.Mathlib.Decide.{ℕ_discrete}
-use lib.ListN.{length, get_or, take, drop, set, drop_of_length-le}
+use lib.ListN.{length, get_or, take, drop, set, replicate, drop_of_length-le}
 use lib.Seq.{get_or-set_same, get_or-set_other}
 use lib.Dec.{eqb}
+use Rattle.std.specs.List.{position_or_len}
 use Rattle.numbers.specs.Answer.{Answer, gives, refused, then}
-use Rattle.header_places.specs.Judging.{row_of}
 use Rattle.release_lines.specs.Search.{index_after, index_of}
 use Rattle.release_lines.specs.Lines.{in_front, lines, line_of}
 use Rattle.release_places.specs.Judging.{Seen, put, missing_row, judge, rest_of_line, values_at}
@@ -87,15 +87,21 @@ map_set f [] i x = refl
 map_set f (a ∷ l) zero x = refl
 map_set f (a ∷ l) (suc i) x = ap (λ (m : List _). f a ∷ m) (map_set f l i x)
 
-pub missing_is : (text places : List ℕ) → missing_row (values_at text places) ≡ row_of places 0
-unfolding missing_row row_of
+-- the first place that is 0 is the first row without a value
+pub missing_is : (text places : List ℕ) → position_or_len (λ p. eqb p 0) places ≡ missing_row (values_at text places)
+unfolding missing_row
 missing_is text [] = refl
 missing_is text (p ∷ ps) = go (eqb p 0) (missing_is text ps)
   where
-    go : (b : Bool) → missing_row (values_at text ps) ≡ row_of ps 0
-        → missing_row (cond b none (some (rest_of_line text p)) ∷ values_at text ps) ≡ elim b [ true ↦ 0 | false ↦ suc (row_of ps 0) ]
+    go : (b : Bool) → position_or_len (λ q. eqb q 0) ps ≡ missing_row (values_at text ps)
+        → cond (not b) (1 + position_or_len (λ q. eqb q 0) ps) 0 ≡ missing_row (cond b none (some (rest_of_line text p)) ∷ values_at text ps)
     go true e = refl
-    go false e = ap suc e
+    go false e = omega (arith, e)
+
+pub zeros : (k i : ℕ) → ◌≡◌ {A = ℕ} (get_or (replicate k 0) i 0) 0
+zeros zero i = refl
+zeros (suc k) zero = refl
+zeros (suc k) (suc i) = zeros k i
 
 -- each place lies within the text, also with one more
 pub within_set : (l : List ℕ) (r q n : ℕ) → ((i : ℕ) → get_or l i 0 ≤ n) → r < length l → q ≤ n → (i : ℕ) → get_or (set l r q) i 0 ≤ n

@@ -1,11 +1,11 @@
 -- A release sheet: its lines in their order, and which value each of the five names has.
-use Rattle.std.specs.Prelude.{◌≡◌, ℕ, suc, ◌≤◌, List, [], ◌∷◌, map, cond, length, get_or, set, take, drop, replicate, eqb, ltb}
+use Rattle.std.specs.Prelude.{◌≡◌, ℕ, suc, ◌≤◌, List, [], ◌∷◌, map, cond, length, get_or, set, take, drop, replicate, eqb, ltb, Result, Ok}
 use Rattle.std.proofs.Math.Option.{Option, none, some}
 use Rattle.numbers.specs.Answer.{Answer, gives, refused, then}
 use Rattle.numbers.specs.GivenBack.{sheet_answer}
+use Rattle.numbers.specs.declared.SheetRefusal.{SheetRefusal}
 use Rattle.release_lines.specs.Search.{index_of}
 use Rattle.release_lines.specs.Lines.{lines, types, Entry, nothing, value, line_of}
-use Rattle.release_places.specs.declared.Places.{Places}
 
 -- The value that each row of the table of names has so far, or none.
 abbrev pub Seen : Type 0
@@ -54,9 +54,8 @@ value_at text p = cond (eqb p 0) none (some (rest_of_line text p))
 abbrev pub values_at : List ℕ → List ℕ → Seen
 values_at text places = map (λ p. value_at text p) places
 
--- What a search for the values promises: its outcome, with the values at its places; that these lie within the text; and that beside a
--- refusal they are blank, all 0.
-pub record Finds (text : List ℕ) (r : Places) : Type 0 where
-  pub outcome : sheet_answer r.outcome (values_at text r.places) ≡ judged text
-  pub within : (row : ℕ) → get_or r.places row 0 ≤ length text
-  pub blank : (n p : ℕ) → judged text ≡ refused n p → r.places ≡ replicate 5 0
+-- What a search for the values promises: what the lines come to, with the values at the places that it finds; and that these lie within
+-- the text.
+pub record Finds (text : List ℕ) (r : Result (List ℕ) SheetRefusal) : Type 0 where
+  pub answer : then (sheet_answer r) (λ places. gives (values_at text places)) ≡ judged text
+  pub within : (places : List ℕ) → r ≡ Ok places → (row : ℕ) → get_or places row 0 ≤ length text

@@ -1,51 +1,42 @@
 -- What the reader makes of the values at their places. Assumes nothing.
-use mathlib.Core.Path.{◌≡◌, sym, ap, ◌∙◌}
-use Prim.Native.Nat.{ℕ, ◌≤◌, ◌<◌}
+use mathlib.Core.Path.{◌≡◌, refl, sym, ap, ◌∙◌}
+use Prim.Native.Nat.{ℕ, ◌<◌}
 use mathlib.Core.List.{List}
-use mathlib.Core.Bool.{Bool, true, false, not, ◌&&◌}
-use native.Mathlib.Omega.{arith}
+use mathlib.Core.Bool.{Bool, true, false, not}
 use lib.ListN.{length, get_or, replicate}
-use lib.Dec.{lit<, eqb, ltb, leb}
-use borrow.Author.Tests.{eqb-true, leb-true, not-true, not-false}
+use Rattle.std.specs.Prelude.{Option as CodeOption, Some, None, SomeIff, Result, Ok, Err}
+use Rattle.std.specs.Option.{is_some, unwrap_or}
+use lib.Dec.{lit<, eqb}
+use borrow.Author.Tests.{eqb-true}
 use Rattle.numbers.specs.Answer.{Answer, gives, then}
-use Rattle.numbers.specs.GivenBack.{sheet_answer}
-use Rattle.numbers.specs.declared.SheetOutcome.{SheetOutcome}
-use Rattle.numbers.specs.declared.SheetOutcome.TheVariants.{Accepted}
-use Rattle.numbers.proofs.Refusals.{sheet_refusing}
+use Rattle.numbers.specs.GivenBack.{sheet_says, refused_with}
+use Rattle.numbers.specs.declared.SheetRefusal.{SheetRefusal}
 use Rattle.release_values.specs.declared.Stated.{Stated}
-use Rattle.release_values.specs.Stated.{blank}
-use Rattle.release_digits.specs.declared.Parsed.{Parsed}
-use Rattle.release_digits.specs.Digits.{decimal, decimal_up_to, all_digits, all_hex, hex_digits, hex_bytes, Decimals}
+use Rattle.release_digits.specs.Digits.{decimal, all_hex, hex_digits, hex_bytes}
 use Rattle.numbers.proofs.Tests.{first_of, second_of}
 use Rattle.header_tags.specs.Bytes.{same}
 use Rattle.release_lines.specs.Lines.{no_hint, is_hint}
-use Rattle.release_places.specs.declared.Places.{Places}
 use Rattle.release_places.specs.Judging.{Seen, judged, rest_of_line, values_at, Finds}
-use Rattle.release_sheet.specs.Reading.{value_in, hint_bytes, stated_in, read_sheet, stated_of, Reads, ValuesFit}
+use Rattle.release_sheet.specs.Reading.{value_in, hint_bytes, stated_in, read_sheet, ValuesFit}
 use Rattle.release_sheet.proofs.Fitting.{places_fit, value_there}
 
 -- ---- one value
-
--- of a text that is a number the number is handed out
-pub number_is : {most : ℕ} {l : List ℕ} {r : Parsed} → Decimals most l r → decimal_up_to most l ≡ true → (r.number ≡ decimal l) × (r.number ≤ most)
-number_is {most} {l} {r} d e =
-    let is : r.number ≡ decimal l = rw e at d.number in
-    let tests = second_of (ltb 0 (length l)) (all_digits l && leb (decimal l) most) e in
-    let le = leb-true (decimal l) most (second_of (all_digits l) (leb (decimal l) most) tests) in
-    (is, omega arith)
 
 pub hex_is : (n : ℕ) (l : List ℕ) → hex_digits n l ≡ true → (length l ≡ n) × (all_hex l ≡ true)
 hex_is n l e = (eqb-true (length l) n (first_of (eqb (length l) n) (all_hex l) e), second_of (eqb (length l) n) (all_hex l) e)
 
 -- a hint that is not "no"
-pub hint_is : {b : Bool} (l : List ℕ) → is_hint l ≡ true → b ≡ not (same l no_hint) → b ≡ true → hex_digits 64 l ≡ true
-hint_is l e d t = rw (not-true (same l no_hint) (sym d ∙ t)) at e
+pub hint_is : (l : List ℕ) → is_hint l ≡ true → same l no_hint ≡ false → hex_digits 64 l ≡ true
+hint_is l e t = rw t at e
 
-pub hint_read : {b : Bool} {r : List ℕ} (l : List ℕ) → b ≡ not (same l no_hint) → b ≡ true → r ≡ hex_bytes l → r ≡ hint_bytes l
-hint_read l d t is = rw (not-true (same l no_hint) (sym d ∙ t)) is
-
-pub no_hint_read : {b : Bool} (l : List ℕ) → b ≡ not (same l no_hint) → b ≡ false → replicate 32 0 ≡ hint_bytes l
-no_hint_read l d t = rw (not-false (same l no_hint) (sym d ∙ t))
+pub hint_told : (l : List ℕ) (o : CodeOption (List ℕ)) → SomeIff o (same l no_hint ≡ false) (hex_bytes l)
+    → (is_some o ≡ not (same l no_hint)) × (unwrap_or o (replicate 32 0) ≡ hint_bytes l)
+hint_told l (Some x) w = (rw w.0, rw w.0 w.1)
+hint_told l None w = let t = not_false (same l no_hint) w in (rw t, rw t)
+  where
+    not_false : (b : Bool) → (b ≡ false → ⊥) → b ≡ true
+    not_false true n = refl
+    not_false false n = absurd (n refl)
 
 -- ---- the values
 
@@ -76,22 +67,13 @@ by_values : (text : List ℕ) {a : Answer Seen} → judged text ≡ a → read_s
 unfolding read_sheet
 by_values text e = ap (λ (a : Answer Seen). then a (λ s. gives (stated_in s))) e
 
-module _ (text : List ℕ) (r : Places) (finds : Finds text r) where
-  module _ (is : r.outcome ≡ Accepted) where
-    found : judged text ≡ gives (values_at text r.places)
-    found = sym finds.outcome ∙ ap (λ (o : SheetOutcome). sheet_answer o (values_at text r.places)) is
+pub fit : (text places : List ℕ) {r : Result (List ℕ) SheetRefusal} → Finds text r → r ≡ Ok places → ValuesFit text places
+fit text places finds is = places_fit text places (sym (rw is at finds.answer)) (finds.within places is)
 
-    pub fit : ValuesFit text r.places
-    fit = places_fit text r.places found finds.within
+pub taken_in : (text places : List ℕ) {r : Result (List ℕ) SheetRefusal} {v : Stated} → Finds text r → r ≡ Ok places → v ≡ stated_in (values_at text places)
+    → gives v ≡ read_sheet text
+taken_in text places finds is e = sym (by_values text (sym (rw is at finds.answer)) ∙ ap gives (sym e))
 
-    pub taken_in : {v : Stated} → v ≡ stated_in (values_at text r.places) → Reads text (record { outcome = Accepted; stated = v })
-    taken_in {v} e =
-        let f : read_sheet text ≡ gives v = by_values text found ∙ ap gives (sym e) in
-        record { outcome = sym f; values = sym (ap stated_of f) }
-
-  -- the sheet is refused
-  pub turned_on : {v : Stated} → (r.outcome ≡ Accepted → ⊥) → v ≡ blank → Reads text (record { outcome = r.outcome; stated = v })
-  turned_on {v} not b =
-      let h = sheet_refusing r.outcome not in
-      let f = by_values text (sym finds.outcome ∙ h.is (values_at text r.places)) in
-      record { outcome = h.is v ∙ sym f; values = b ∙ sym (ap stated_of f) }
+-- the sheet is refused
+pub turned_on : (text : List ℕ) {r : Result (List ℕ) SheetRefusal} {x : SheetRefusal} → Finds text r → r ≡ Err x → refused_with (sheet_says x) ≡ read_sheet text
+turned_on text finds is = sym (by_values text (sym (rw is at finds.answer)))

@@ -2,14 +2,12 @@
 use Rattle.std.specs.Prelude.{◌≡◌, ℕ, ◌≤◌, ◌<◌, List, [], true, not, cond, length, get_or, replicate}
 use Rattle.std.proofs.Math.Option.{Option, none, some}
 use Rattle.numbers.specs.Answer.{Answer, gives, refused, then}
-use Rattle.numbers.specs.GivenBack.{sheet_answer}
 use Rattle.release_values.specs.declared.Stated.{Stated}
 use Rattle.release_values.specs.Stated.{blank}
 use Rattle.release_digits.specs.Digits.{decimal, hex_bytes}
 use Rattle.header_tags.specs.Bytes.{same}
 use Rattle.release_lines.specs.Lines.{no_hint, well_formed}
 use Rattle.release_places.specs.Judging.{Seen, judged, rest_of_line}
-use Rattle.release_sheet.specs.declared.SheetAnswer.{SheetAnswer}
 
 -- The value of a row.
 abbrev pub value_of : Option (List ℕ) → List ℕ
@@ -39,14 +37,10 @@ stated_in seen =
 unfoldable pub read_sheet : List ℕ → Answer Stated
 read_sheet text = then (judged text) (λ seen. gives (stated_in seen))
 
+-- The values that the C call hands out: blank beside a refusal.
 abbrev pub stated_of : Answer Stated → Stated
 stated_of (gives v) = v
 stated_of (refused n p) = blank
-
--- What the reader promises of a text: its outcome and its values, both decided by the text alone.
-pub record Reads (text : List ℕ) (r : SheetAnswer) : Type 0 where
-  pub outcome : sheet_answer r.outcome r.stated ≡ read_sheet text
-  pub values : r.stated ≡ stated_of (read_sheet text)
 
 -- Inside: every row has a place within the text, and the value there passes the row's test.
 pub record ValuesFit (text places : List ℕ) : Type 0 where

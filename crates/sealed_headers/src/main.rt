@@ -1,6 +1,7 @@
 // Reads the headers that stand one behind another in standard input, 256 bytes each, by the sealed profile. Prints a line for each.
 #![tactic(auto)]
 
+use numbers::Numbered;
 use std::io;
 use std::io::Read;
 
@@ -16,16 +17,15 @@ fn read_next(rt: &(impl Input + Alloc + Print)) -> io::Result<bool> {
     if header.is_empty() {
         return Ok(false);
     }
-    let read = header_sealed::read_sealed(&header);
-    let outcome = read.outcome;
-    let refused = numbers::of_sealed(outcome);
-    if refused.number == 0 {
-        println!(rt; "sealed")?;
-        return Ok(true);
+    match header_sealed::read_sealed(&header) {
+        Ok(_) => println!(rt; "sealed")?,
+        Err(refusal) => {
+            let refused = refusal.refused();
+            let mut text = [0; 128];
+            let k = listing_lines::put_refusal(&mut text, refused.number as usize, refused.place);
+            rt.write_all(&text[..k])?;
+        }
     }
-    let mut text = [0u8; 128];
-    let k = listing_lines::put_refusal(&mut text, refused.number as usize, refused.place);
-    rt.write_all(&text[..k])?;
     Ok(true)
 }
 

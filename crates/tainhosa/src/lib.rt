@@ -2,21 +2,20 @@
 // a buffer of another length than documented is refusal 1, and nothing changes.
 #![tactic(auto)]
 
-ghost use Rattle.std.specs.Prelude.{◌≡◌};
+ghost use Rattle.std.specs.Prelude.{◌≡◌, [], ◌∷◌, length};
+ghost use Rattle.numbers.specs.GivenBack.{refusal_of, answer_by};
 ghost use Rattle.flash.specs.Buffers.{flash};
 ghost use Rattle.tainhosa.specs.Digest.{after_digest, sha256_answer};
 ghost use Rattle.c_headers.specs.Rows.{values_from};
-ghost use Rattle.tainhosa.specs.Headers.{after_header, given, read_answer, check_answer, firmware_answer, after_write, write_answer};
+ghost use Rattle.tainhosa.specs.Headers.{after_header, laid_out, read_answer, check_answer, firmware_answer, after_write, write_answer};
 ghost use Rattle.tainhosa.specs.Headers.{read_sealed_answer, write_sealed_answer};
 ghost use Rattle.tainhosa.specs.Releases.{sheet_read, stated_from, make_answer};
 ghost use Rattle.tainhosa.specs.Walking.{after_tag, tag_answer};
 ghost use Rattle.tainhosa.specs.Loading.{after_call, power_up_answer, arm_answer, confirm_answer, mend_answer};
 ghost use Rattle.tainhosa.specs.Loading.{after_counted, counted_power_up_answer, counted_arm_answer};
 
-use flash::GeometryAnswer;
 use header_reader::Header;
-use image::ImageVerdict;
-use numbers::{ImageOutcome, Refused};
+use numbers::Numbered;
 use release_values::Stated;
 
 // How many numbers and bytes a header's values are.
@@ -62,17 +61,23 @@ pub extern "C" fn tainhosa_sha256(message: &[u8], digest: &mut [u8]) -> u32
     0
 }
 
-// A refusal or none, and a header's values, into the caller's buffers.
-fn give(numbers: &mut [u64], bytes: &mut [u8], refused: Refused, v: Header) -> u32
+// What a reader says, into the caller's buffers: a header's values, or the place of a refusal beside blank values.
+fn give<E: Numbered + Copy>(
+    numbers: &mut [u64],
+    bytes: &mut [u8],
+    read: Result<Header, E>,
+) -> u32
     ensures { after_header result numbers.new bytes.new
-        ≡ given refused v numbers.old bytes.old }
+        ≡ laid_out (answer_by E.says read) numbers.old bytes.old }
 {
-    if numbers.len() != HEADER_NUMBERS {
+    if numbers.len() != HEADER_NUMBERS || bytes.len() != HEADER_BYTES {
         return WRONG_LENGTH;
     }
-    if bytes.len() != HEADER_BYTES {
-        return WRONG_LENGTH;
-    }
+    let refused = numbers::refused_by(read);
+    let v = match read {
+        Ok(v) => v,
+        Err(_) => Header::blank(),
+    };
     c_headers::put_header(numbers, bytes, refused.place as u64, v);
     refused.number
 }
@@ -83,10 +88,7 @@ pub extern "C" fn tainhosa_read_header(input: &[u8], numbers: &mut [u64], bytes:
     ensures { after_header result numbers.new bytes.new
         ≡ read_answer input.now numbers.old bytes.old }
 {
-    let read = header_reader::read_header(input);
-    let outcome = read.outcome;
-    let v = read.header;
-    give(numbers, bytes, numbers::of_header(outcome), v)
+    give(numbers, bytes, header_reader::read_header(input))
 }
 
 // Reads the header in the first 256 bytes of the input by the sealed profile.
@@ -95,10 +97,7 @@ pub extern "C" fn tainhosa_read_sealed(input: &[u8], numbers: &mut [u64], bytes:
     ensures { after_header result numbers.new bytes.new
         ≡ read_sealed_answer input.now numbers.old bytes.old }
 {
-    let read = header_sealed::read_sealed(input);
-    let outcome = read.outcome;
-    let v = read.header;
-    give(numbers, bytes, numbers::of_sealed(outcome), v)
+    give(numbers, bytes, header_sealed::read_sealed(input))
 }
 
 // Checks an image that lies by itself: the lent bytes stand for the firmware sectors.
@@ -111,14 +110,7 @@ pub extern "C" fn tainhosa_check_firmware(
     ensures { after_header result numbers.new bytes.new
         ≡ firmware_answer firmware.now numbers.old bytes.old }
 {
-    match image::judge(firmware) {
-        ImageVerdict::Good(_) => {
-            let read = header_reader::read_header(firmware);
-            let v = read.header;
-            give(numbers, bytes, numbers::of_image(ImageOutcome::Good), v)
-        }
-        ImageVerdict::Bad(o) => give(numbers, bytes, numbers::of_image(o), Header::blank()),
-    }
+    give(numbers, bytes, image::check_firmware(firmware))
 }
 
 // Checks the image of a partition: it is the one that its firmware sectors hold.
@@ -133,19 +125,18 @@ pub extern "C" fn tainhosa_check_image(
     ensures { after_header result numbers.new bytes.new
         ≡ check_answer sectors size partition.now numbers.old bytes.old }
 {
-    match flash::check_partition(sectors, size, partition) {
-        GeometryAnswer::Fits(g) => tainhosa_check_firmware(
-            flash_sectors::firmware_part(g, partition),
-            numbers,
-            bytes,
-        ),
-        GeometryAnswer::Outside => give(
-            numbers,
-            bytes,
-            numbers::of_image(ImageOutcome::OutsideRules),
-            Header::blank(),
-        ),
-    }
+    give(numbers, bytes, image::check_image(sectors, size, partition))
+}
+
+// Tells what a writer says in a caller's row of one number: the place of a refusal, or 0. The answer is its number, or 0.
+fn tell<E: Numbered + Copy>(place: &mut [u64], written: Result<(), E>) -> u32
+    requires { length place.old ≡ 1 }
+    ensures number { result ≡ (refusal_of (answer_by E.says written)).number }
+    ensures place { place.new ≡ (refusal_of (answer_by E.says written)).place ∷ [] }
+{
+    let refused = numbers::refused_by(written);
+    place[0] = refused.place as u64;
+    refused.number
 }
 
 // Writes a header into the first 256 bytes of the output. The bytes are the digest, the signature and the hint; the row takes the
@@ -172,9 +163,7 @@ pub extern "C" fn tainhosa_write_header(
         return WRONG_LENGTH;
     }
     let v = c_headers::header_from(size, version, timestamp, auth_type, has_hint, bytes);
-    let refused = numbers::of_write(header_writer::write_header(out, v));
-    place[0] = refused.place as u64;
-    refused.number
+    tell(place, header_writer::write_header(out, v))
 }
 
 // Writes a sealed header into the first 256 bytes of the output. The bytes and the row are those of `tainhosa_write_header`.
@@ -200,9 +189,7 @@ pub extern "C" fn tainhosa_write_sealed(
         return WRONG_LENGTH;
     }
     let v = c_headers::header_from(size, version, timestamp, auth_type, has_hint, bytes);
-    let refused = numbers::of_sealed_write(header_sealed::write_sealed(out, v));
-    place[0] = refused.place as u64;
-    refused.number
+    tell(place, header_sealed::write_sealed(out, v))
 }
 
 // Reads a release sheet.
@@ -218,9 +205,11 @@ pub extern "C" fn tainhosa_read_sheet(text: &[u8], numbers: &mut [u64], bytes: &
         return WRONG_LENGTH;
     }
     let read = release_sheet::read_sheet(text);
-    let outcome = read.outcome;
-    let v = read.stated;
-    let refused = numbers::of_sheet(outcome);
+    let refused = numbers::refused_by(read);
+    let v = match read {
+        Ok(v) => v,
+        Err(_) => Stated::blank(),
+    };
     c_release::put_stated(numbers, bytes, refused.place as u64, v);
     refused.number
 }
@@ -249,8 +238,8 @@ pub extern "C" fn tainhosa_make_header(
     if place.len() != WRITE_NUMBERS {
         return WRONG_LENGTH;
     }
-    let signature = header_reader::copy_64(bytes, 0);
-    let hint = header_reader::copy_32(bytes, 64);
+    let signature = header_reader::copy_bytes(bytes, 0);
+    let hint = header_reader::copy_bytes(bytes, 64);
     let v = Stated {
         version,
         timestamp,
@@ -259,9 +248,7 @@ pub extern "C" fn tainhosa_make_header(
         has_hint,
         hint,
     };
-    let refused = numbers::of_write(release_header::make_header(out, firmware, v));
-    place[0] = refused.place as u64;
-    refused.number
+    tell(place, release_header::make_header(out, firmware, v))
 }
 
 // The tag from a place of a header on, and the place to go on from.
@@ -273,10 +260,9 @@ pub extern "C" fn tainhosa_next_tag(input: &[u8], at: usize, tag: &mut [u64]) ->
         return WRONG_LENGTH;
     }
     let look = header_tags::walk_on(input, at);
-    let t = look.tag;
-    let row = c_headers::tag_row(t, look.next as u64);
+    let row = c_headers::tag_row(look.found, look.next as u64);
     c_headers::put_numbers(tag, &row);
-    c_headers::of_tag(t)
+    numbers::refused_by(look.found).number
 }
 
 // A power-up with at most `budget` operations.
@@ -297,10 +283,8 @@ pub extern "C" fn tainhosa_power_up(
         return WRONG_LENGTH;
     }
     let a = power_up::power_up(sectors, size, boot, update, swap, budget);
-    let outcome = a.outcome;
-    let reason = a.reason;
-    let ended = c_power_up::of_outcome(outcome);
-    let why = numbers::of_reason(reason);
+    let ended = c_power_up::of_outcome(a.outcome);
+    let why = numbers::of_reason(a.reason);
     let row = [
         ended.outcome,
         a.count,
@@ -402,10 +386,8 @@ pub extern "C" fn tainhosa_power_up_counted(
     let a = counts_power_up::power_up_counted(
         sectors, size, boot, update, swap, budget, row, total,
     );
-    let outcome = a.outcome;
-    let reason = a.reason;
-    let ended = c_counts::of_counted(outcome);
-    let why = numbers::of_reason(reason);
+    let ended = c_counts::of_counted(a.outcome);
+    let why = numbers::of_reason(a.reason);
     let numbers = [
         ended.outcome,
         a.count,

@@ -2,7 +2,9 @@
 // walker, up to the end or a refusal, and a line for one call more, which repeats it.
 #![tactic(auto)]
 
-use header_tags::Tag;
+use header_tags::{Tag, WalkRefusal};
+use header_walker::TagWalker;
+use numbers::{Numbered, Refused};
 use std::io::Read;
 use std::rt::Runtime;
 use std::{env, fs, io};
@@ -10,44 +12,35 @@ use std::{env, fs, io};
 // A header has 62 tags at most, so that call number 62, the 63rd, is the end or a refusal at the latest.
 const MOST_CALLS: usize = 63;
 
-fn print(rt: &impl Print, words: &str, n: usize) -> io::Result<()> {
-    print!(rt; "{words}{n}")
-}
-
-fn print_refusal(rt: &impl Print, number: usize, place: usize) -> io::Result<()> {
-    print(rt, "refused ", number)?;
-    print(rt, " at ", place)?;
-    println!(rt)
-}
-
 // Prints an answer, and says whether it is a tag.
-fn print_answer(rt: &impl Print, t: Tag) -> io::Result<bool> {
-    match t {
-        Tag::Found {
-            place,
-            kind,
-            length,
-        } => {
-            print(rt, "place ", place)?;
-            print(rt, " type ", kind)?;
-            print(rt, " length ", length)?;
-            println!(rt)?;
+fn print_answer(rt: &impl Print, found: Result<Option<Tag>, WalkRefusal>) -> io::Result<bool> {
+    match found {
+        Ok(Some(tag)) => {
+            let Tag {
+                place,
+                kind,
+                length,
+            } = tag;
+            println!(rt; "place {place} type {kind} length {length}")?;
             return Ok(true);
         }
-        Tag::End => println!(rt; "end")?,
-        Tag::TooShort => print_refusal(rt, 16, 0)?,
-        Tag::DoesNotFit(place) => print_refusal(rt, 4, place)?,
-        Tag::NoEnd(place) => print_refusal(rt, 7, place)?,
+        Ok(None) => println!(rt; "end")?,
+        Err(refusal) => {
+            let Refused { number, place } = refusal.refused();
+            println!(rt; "refused {number} at {place}")?;
+        }
     }
     Ok(false)
 }
 
 fn print_walk(rt: &impl Print, header: &[u8]) -> io::Result<()> {
-    let mut n = 0;
-    while n < MOST_CALLS && print_answer(rt, header_walker::nth(header, n))? {
-        n += 1;
+    let mut walker = TagWalker::new(header);
+    for _ in 0..MOST_CALLS {
+        if !print_answer(rt, walker.next())? {
+            break;
+        }
     }
-    print_answer(rt, header_walker::nth(header, n + 1))?;
+    print_answer(rt, walker.next())?;
     Ok(())
 }
 

@@ -1,16 +1,13 @@
-use mathlib.Core.Path.{◌≡◌, ◌∙◌}
-use native.Mathlib.Omega.{arith}
-use lib.ListN.{length}
-use Rattle.header_sealed.proofs.Differing.{first_is, none_is}
+use borrow.Author.Rules.{rules}
+use borrow.Author.Tests.{tests}
+use Rattle.std.proofs.lemmas.Iterator.{IsFirst-from_position, YieldsList-from_zip, YieldsList-from_slice}
+use Rattle.header_sealed.proofs.Differing.{Same, Differ, found}
 use Rattle.header_sealed.proofs.first_difference.Goals as goal
 
-pub returns-then-a-i : goal.returns-then-a-i
-returns-then-a-i c =
-    let a = c.args in
-    first_is a.a.now a.b.now c.loop-i.i c.requires (omega arith) c.loop-i.invariant.1 c.if-a-i.true
-
-pub returns : goal.returns
-returns c =
-    let a = c.args in
-    let e : c.loop-i.i ≡ length a.a.now = omega (arith, c.loop-i.invariant.0) in
-    e ∙ none_is a.a.now a.b.now c.requires (λ j lt. c.loop-i.invariant.1 j (omega arith))
+pub returns-clause-is : goal.returns-clause-is
+returns-clause-is c =
+    let a = c.args.a.now in
+    let b = c.args.b.now in
+    let pairs = YieldsList-from_zip {s = c.zip.result} (YieldsList-from_slice a cc) (YieldsList-from_slice b cc) in
+    found a b c.position.result c.requires
+    (IsFirst-from_position c.position.new.self _ _ Differ Same c.position.ensures.ran pairs (λ x q k. search (rules, tests)) (λ x q k. search (rules, tests)))

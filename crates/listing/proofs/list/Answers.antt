@@ -2,12 +2,12 @@ use Rattle.listing.proofs.Said.{lists_fields, lists_refusal}
 use borrow.Author.Rules.{rules}
 use Rattle.listing.proofs.list.Goals as goal
 
-pub returns-in-Accepted : goal.returns-in-Accepted
-returns-in-Accepted c =
-    let h = c.read_header-answer in
-    lists_fields c.args.s.now h.result.outcome h.result.header h.ensures.outcome c.in-Accepted.is c.put_fields.ensures.upper_bound (search rules) c.put_fields.ensures.puts
+pub returns-in-Ok : goal.returns-in-Ok
+returns-in-Ok c =
+    let t = c.put_fields.ensures in
+    lists_fields c.args.s.now c.in-Ok.ensures t.upper_bound (search rules) t.puts
 
-pub returns : goal.returns
-returns c =
-    let h = c.read_header-answer in
-    lists_refusal c.args.s.now h.result.outcome h.result.header h.ensures.outcome c.in_default.not-Accepted c.of_header-refused.ensures c.put_refusal.ensures.upper_bound (search rules) c.put_refusal.ensures.puts
+pub returns-in-Err : goal.returns-in-Err
+returns-in-Err c =
+    let t = c.put_refusal.ensures in
+    lists_refusal c.args.s.now c.in-Err.refusal c.in-Err.ensures c.refused-refused.ensures t.upper_bound (search rules) t.puts

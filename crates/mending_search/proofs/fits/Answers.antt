@@ -1,28 +1,51 @@
-use mathlib.Core.Path.{sym, ◌∙◌}
+use mathlib.Core.Path.{sym, ap, ◌∙◌}
+use mathlib.Core.Bool.{Bool, ◌&&◌}
 use native.Mathlib.Omega.{arith}
 use Rattle.digest_fips180.specs.Sha256.{H0}
-use Rattle.flash.specs.Buffers.{lent}
 use Rattle.mending.specs.declared.OldImage.TheVariants.{Boot, Update}
+use Rattle.mending_images.specs.Claims.{old_bytes, has_digest}
+use Rattle.mending_images.specs.Lent.{lent_flash}
 use Rattle.mending_images.proofs.Hashed.{none_hashed}
 use Rattle.mending_images.proofs.Fitting.{claims_lie}
 use Rattle.mending_search.proofs.Behind.{fits_claims}
 use Rattle.mending_search.proofs.fits.Goals as goal
 
-pub have_digests-requires : goal.have_digests-requires
+pub invariant_of-update : goal.invariant_of-update
+invariant_of-update c =
+    let f = c.args.flash in
+    record { lies = (claims_lie f.geometry c.args.mark (lent_flash f) _ _ (sym c.read_claims.ensures ∙ c.in-Some.is)).0 }
+
+pub has_digest-requires : goal.has_digest-requires
 unfolding H0
-have_digests-requires c =
-    let a = c.args in
-    let f = lent a.boot a.update a.swap in
-    let u = c.in-Newer.u in
-    let b = c.in-Newer.b in
-    let l = claims_lie a.g a.mark f u b (sym c.read_claims.ensures ∙ c.in-Newer.is) in
-    (c.requires, omega arith, l.0, l.1, none_hashed a.g f Update a.mark u, none_hashed a.g f Boot a.mark b)
+has_digest-requires c =
+    let f = c.args.flash in (omega arith, none_hashed f.geometry (lent_flash f) Update c.args.mark c.in-Some.u)
 
-pub returns-in-Newer : goal.returns-in-Newer
-returns-in-Newer c =
-    let a = c.args in
-    c.have_digests.ensures ∙ fits_claims a.g (lent a.boot a.update a.swap) c.requires a.mark _ (sym c.in-Newer.is ∙ c.read_claims.ensures)
+pub invariant_of-boot : goal.invariant_of-boot
+invariant_of-boot c =
+    let f = c.args.flash in
+    record { lies = (claims_lie f.geometry c.args.mark (lent_flash f) _ _ (sym c.read_claims.ensures ∙ c.in-Some.is)).1 }
 
-pub returns-in-No : goal.returns-in-No
-returns-in-No c =
-    let a = c.args in fits_claims a.g (lent a.boot a.update a.swap) c.requires a.mark _ (sym c.in-No.is ∙ c.read_claims.ensures)
+pub has_digest-requires-then-has_digest : goal.has_digest-requires-then-has_digest
+unfolding H0
+has_digest-requires-then-has_digest c =
+    let f = c.args.flash in (omega arith, none_hashed f.geometry (lent_flash f) Boot c.args.mark c.in-Some.b)
+
+pub returns-then-has_digest : goal.returns-then-has_digest
+returns-then-has_digest c =
+    let f = c.args.flash in
+    let l = lent_flash f in
+    c.has_digest-then-has_digest.ensures
+    ∙ ap (λ (x : Bool). x && has_digest (old_bytes f.geometry Boot c.args.mark l) c.in-Some.b) (sym c.if-has_digest.true ∙ c.has_digest.ensures)
+    ∙ fits_claims f.geometry l f.shaped c.args.mark _ (sym c.in-Some.is ∙ c.read_claims.ensures)
+
+pub returns-else-has_digest : goal.returns-else-has_digest
+returns-else-has_digest c =
+    let f = c.args.flash in
+    let l = lent_flash f in
+    c.if-has_digest.false
+    ∙ ap (λ (x : Bool). x && has_digest (old_bytes f.geometry Boot c.args.mark l) c.in-Some.b) (sym c.if-has_digest.false ∙ c.has_digest.ensures)
+    ∙ fits_claims f.geometry l f.shaped c.args.mark _ (sym c.in-Some.is ∙ c.read_claims.ensures)
+
+pub returns-in-None : goal.returns-in-None
+returns-in-None c =
+    let f = c.args.flash in fits_claims f.geometry (lent_flash f) f.shaped c.args.mark _ (sym c.in-None.is ∙ c.read_claims.ensures)

@@ -1,13 +1,14 @@
+use Rattle.std.proofs.lemmas.Result.{err_from_is_err_and}
 use Rattle.release_sheet.proofs.Answers.{fit, taken_in, turned_on}
 use Rattle.release_sheet.proofs.read_sheet.Goals as goal
 
-pub read_values-stated-requires : goal.read_values-stated-requires
-read_values-stated-requires c =
-    fit c.args.text.now c.find_values-found.result c.find_values-found.ensures c.in-Accepted.is
+pub returns-in_err-places : goal.returns-in_err-places
+returns-in_err-places c =
+    let p = err_from_is_err_and c.from_residual.result c.from_residual.ensures.1 in
+    rw (p.1, p.2) (turned_on c.args.text.now c.find_values.ensures c.in_err-places.was)
 
-pub returns-in-Accepted : goal.returns-in-Accepted
-returns-in-Accepted c =
-    taken_in c.args.text.now c.find_values-found.result c.find_values-found.ensures c.in-Accepted.is c.read_values-stated.ensures
+pub read_values-requires : goal.read_values-requires
+read_values-requires c = fit c.args.text.now c.in_ok-places.places c.find_values.ensures c.in_ok-places.was
 
 pub returns : goal.returns
-returns c = turned_on c.args.text.now c.find_values-found.result c.find_values-found.ensures c.in_default.not-Accepted c.blank-stated.ensures
+returns c = taken_in c.args.text.now c.in_ok-places.places c.find_values.ensures c.in_ok-places.was c.read_values.ensures
