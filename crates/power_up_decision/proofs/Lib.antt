@@ -1,1 +1,2 @@
--- none
+-- The laws that the proofs of this crate cite.
+mod Mapped
