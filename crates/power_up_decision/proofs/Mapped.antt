@@ -15,11 +15,11 @@ use Rattle.exchange.specs.Decision.{Plan, refuse, work, accept, accept_fallback}
 use Rattle.image.specs.declared.Release.{Release}
 
 -- the version, as the rules take it
-abbrev version_of : Result Release ImageRefusal → Answer ℕ
+abbrev pub version_of : Result Release ImageRefusal → Answer ℕ
 version_of r = then (image_answer r) (λ x. gives x.version)
 
 -- what `map_err` says
-abbrev Wraps : (ImageRefusal → PowerUpRefusal) → Result Release ImageRefusal → Result Release PowerUpRefusal → Type 0
+abbrev pub Wraps : (ImageRefusal → PowerUpRefusal) → Result Release ImageRefusal → Result Release PowerUpRefusal → Type 0
 Wraps wrap r s = MatchResult r (λ x. s ≡ Ok x) (λ i. IsErrAnd s (λ e. e ≡ wrap i))
 
 -- ---- a fallback
