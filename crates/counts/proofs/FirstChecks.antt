@@ -9,12 +9,12 @@ use Rattle.numbers.specs.Answer.{Answer, gives, refused, then}
 use Rattle.flash.specs.declared.Geometry.{Geometry}
 use Rattle.flash.specs.Sizes.{geometry, geometry_where}
 use Rattle.flash.specs.Buffers.{Flash, fits, flash_of}
-use Rattle.flash.proofs.Answers.{flash_asked, flash_fits, flash_unfit}
+use Rattle.flash.proofs.Answers.{flash_asked, flash_fits}
 use Rattle.exchange.specs.declared.Operation.{Operation}
 use Rattle.counts.specs.Row.{raised, check_row}
 use Rattle.counts.specs.Calls.{Counted, check_counted, counted}
 use Rattle.counts.specs.Claims.{hands_back}
-use Rattle.counts.proofs.Claimed.{Taken, taken, where_it_fits, unfit}
+use Rattle.counts.proofs.Claimed.{Taken, taken, where_it_fits}
 
 -- what is given behind a check that takes everything
 record Behind {B : Type 0} (a : Answer (Unit {0})) (b h : B) : Type 0 where
@@ -59,6 +59,9 @@ module _ (n s : ℕ) (f : Flash) (row : List ℕ) (total : ℕ) where
   module _ {g : Geometry} (e : gives g ≡ asked) where
     fit : Behind (check_counted (geometry n s) f row total) (geometry n s) g
     fit = behind _ _ _ e
+
+    pub asked_same : geometry n s ≡ g
+    asked_same = fit.same
 
     pub found : Taken g f row total
     found = rw (sym fit.same) (taken (geometry n s) f row total fit.takes)
