@@ -119,8 +119,8 @@ fn search_behind<'a>(flash: &'a FlashRef<'a>, u: Claim, b: Claim) -> Option<Mark
             return Some(mark);
         }
         let x = hash_on(&update, moves, d);
-        let y = hash_on(&boot, moves, e);
         d = x;
+        let y = hash_on(&boot, moves, e);
         e = y;
     }
     None
