@@ -1,3 +1,2 @@
--- The counted arm: what it promises, and what its own functions answer.
+-- The counted arm: what it promises.
 pub mod Delivered
-pub mod Inner

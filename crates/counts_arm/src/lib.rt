@@ -7,75 +7,71 @@ ghost use Rattle.flash.specs.Buffers.{flash, Shaped};
 ghost use Rattle.exchange.specs.Commands.{command, arm_operations};
 ghost use Rattle.exchange_steps.specs.Lent.{bytes, SameFlash};
 ghost use Rattle.exchange_commands.specs.declared.CommandKind.TheVariants.{Arm};
-ghost use Rattle.exchange_commands.specs.Numbers.{command_of, commanded};
 ghost use Rattle.exchange_commands.specs.Inner.{permit_at};
+ghost use Rattle.numbers.specs.GivenBack.{refused_at};
 ghost use Rattle.counts.specs.Row.{row_length, raised};
 ghost use Rattle.counts.specs.Calls.{arm_done, counted_arm};
 ghost use Rattle.counts.specs.Claims.{RoomForM};
-ghost use Rattle.counts_arm.specs.Delivered.{counted_commanded};
-ghost use Rattle.counts_arm.specs.Inner.{with_total, refused_answer};
+ghost use Rattle.counts_row.specs.Inner.{counts_says};
+ghost use Rattle.counts_arm.specs.declared.CountedArmRefusal.TheVariants.{Arm as ArmRefused};
+ghost use Rattle.counts_arm.specs.Delivered.{refusal_number, counted_command_of, counted_commanded};
 
-use counts_row::RowAnswer;
+use counts_row::CountsFault;
 use exchange::Operation;
-use exchange_commands::{CommandAnswer, CommandKind, Permit};
+use exchange_commands::CommandKind;
 use exchange_steps::FlashMut;
-use flash::GeometryAnswer;
 use flash_status::UpdateStatus;
 use numbers::{CommandRefusal, RowRefusal};
 
-// Arm's own answer; or the row or the total is refused.
-#[derive(Clone, Copy)]
-pub enum CountedCommand {
-    Arm(CommandAnswer),
+// Arm's own refusals; or the row or the total is refused.
+#[derive(Clone, Copy, PartialEq, Eq)]
+pub enum CountedArmRefusal {
+    Arm(CommandRefusal),
     Counts(RowRefusal),
 }
 
-// The total is the row's sum, or as it came where the call is refused with 1 or 19.
-#[derive(Clone, Copy)]
+impl From<CommandRefusal> for CountedArmRefusal {
+    ghost from_gives = { λ c r. r ≡ ArmRefused c };
+
+    fn from(refusal: CommandRefusal) -> CountedArmRefusal {
+        CountedArmRefusal::Arm(refusal)
+    }
+}
+
+impl From<CountsFault> for CountedArmRefusal {
+    ghost from_gives = { λ c r. refused_at (refusal_number r) 0 ≡ counts_says c };
+
+    fn from(fault: CountsFault) -> CountedArmRefusal {
+        match fault {
+            CountsFault::OutsideRules => CountedArmRefusal::Arm(CommandRefusal::OutsideRules),
+            CountsFault::Row(refusal) => CountedArmRefusal::Counts(refusal),
+        }
+    }
+}
+
+// The answer is the number of operations, or why nothing was done; the total is the row's sum, or as it came where the call is refused
+// with 1 or 19.
+#[derive(Clone, Copy, PartialEq, Eq)]
 pub struct CountedArmAnswer {
-    pub answer: CountedCommand,
+    pub answer: Result<u64, CountedArmRefusal>,
     pub total: u64,
 }
 
 // Arm's operations, where its checks grant them: the erase is counted before the next is done.
-fn obey(f: &mut FlashMut, row: &mut [u32]) -> CommandAnswer
+fn obey(f: &mut FlashMut, row: &mut [u32]) -> Result<u64, CountedArmRefusal>
     requires { (Shaped f.old.geometry (bytes f.old)) × (length row.old ≡ row_length f.old.geometry) × (RoomForM f.old.geometry row.old) }
     ensures same { SameFlash f.old f.new }
-    ensures answer { (commanded result (bytes f.new)
+    ensures answer { (record { answer = counted_command_of result; flash = bytes f.new }
         ≡ command f.old.geometry arm_operations (permit_at Arm f.old.geometry f.old.boot.now f.old.update.now) (bytes f.old))
-        × (row.new ≡ raised f.old.geometry (arm_done (command_of result)) row.old) }
+        × (row.new ≡ raised f.old.geometry (arm_done (counted_command_of result)) row.old) }
 {
     let boot = &mut *f.boot;
     let update = &mut *f.update;
-    match exchange_commands::decide(CommandKind::Arm, f.geometry, boot, update) {
-        Permit::Granted => {
-            f.do_operation(Operation::EraseUpdateTrailer);
-            counts_row::count_done(f.geometry, Operation::EraseUpdateTrailer, row);
-            f.do_operation(Operation::WriteUpdateStatus(UpdateStatus::Updating));
-            CommandAnswer::Done(2)
-        }
-        Permit::Denied(refusal) => CommandAnswer::Refused(refusal),
-    }
-}
-
-// Arm's answer, with the total beside it.
-fn with_total(a: CommandAnswer, total: u64) -> CountedArmAnswer
-    ensures { result ≡ with_total a total }
-{
-    CountedArmAnswer {
-        answer: CountedCommand::Arm(a),
-        total,
-    }
-}
-
-// Refused for the row or the total.
-fn refused(r: RowRefusal, total: u64) -> CountedArmAnswer
-    ensures { result ≡ refused_answer r total }
-{
-    CountedArmAnswer {
-        answer: CountedCommand::Counts(r),
-        total,
-    }
+    exchange_commands::decide(CommandKind::Arm, f.geometry, boot, update)?;
+    f.do_operation(Operation::EraseUpdateTrailer);
+    counts_row::count_done(f.geometry, Operation::EraseUpdateTrailer, row);
+    f.do_operation(Operation::WriteUpdateStatus(UpdateStatus::Updating));
+    Ok(2)
 }
 
 // Arms the update that stands in UPDATE, and counts the erase. Any numbers, lengths, bytes and counts are taken.
@@ -91,28 +87,23 @@ pub fn arm_counted(
     ensures { counted_commanded result (flash boot.new update.new swap.new) row.new
         ≡ counted_arm (geometry sectors size) (flash boot.old update.old swap.old) row.old total }
 {
-    match flash::check_flash(sectors, size, boot, update, swap) {
-        GeometryAnswer::Fits(geometry) => match counts_row::check_row(geometry, row, total) {
-            RowAnswer::Counts => {
-                let mut f = FlashMut {
-                    geometry,
-                    boot,
-                    update,
-                    swap,
-                };
-                let a = obey(&mut f, row);
-                let sum = counts_row::sum_of(row);
-                with_total(a, sum)
+    match counts_row::check_counted(sectors, size, boot, update, swap, row, total) {
+        Ok(geometry) => {
+            let mut f = FlashMut {
+                geometry,
+                boot,
+                update,
+                swap,
+            };
+            let answer = obey(&mut f, row);
+            CountedArmAnswer {
+                answer,
+                total: counts_row::sum_of(row),
             }
-            RowAnswer::OtherLength => with_total(
-                CommandAnswer::Refused(CommandRefusal::OutsideRules),
-                total,
-            ),
-            RowAnswer::Refused(r) => refused(r, total),
-        },
-        GeometryAnswer::Outside => with_total(
-            CommandAnswer::Refused(CommandRefusal::OutsideRules),
+        }
+        Err(fault) => CountedArmAnswer {
+            answer: Err(fault.into()),
             total,
-        ),
+        },
     }
 }

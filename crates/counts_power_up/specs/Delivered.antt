@@ -1,8 +1,8 @@
 -- What the counted power-up promises: the rules of `counts` with the delivered image check, and the papers' numbers for each case of the
 -- code's answers.
-use Rattle.std.specs.Prelude.{◌≡◌, List, ℕ}
-use Rattle.numbers.specs.Answer.{numbered}
-use Rattle.numbers.specs.GivenBack.{row_number, reason_of}
+use Rattle.std.specs.Prelude.{◌≡◌, List, ℕ, Result, Ok, Err}
+use Rattle.numbers.specs.Answer.{Refusal, numbered}
+use Rattle.numbers.specs.GivenBack.{power_up_says, row_number, reason_of}
 use Rattle.flash.specs.Sizes.{geometry}
 use Rattle.flash.specs.Buffers.{Flash}
 use Rattle.exchange.specs.PowerUp as power_up_rules
@@ -10,14 +10,19 @@ use Rattle.exchange.specs.PowerUp.{refusal}
 use Rattle.image.specs.Verdict.{check_of}
 use Rattle.power_up.specs.Delivered.{outcome_of}
 use Rattle.counts.specs.Calls.{Counted, counted_power_up}
-use Rattle.counts_power_up.specs.declared.CountedOutcome.{CountedOutcome}
-use Rattle.counts_power_up.specs.declared.CountedOutcome.TheVariants.{PowerUp, Counts}
+use Rattle.power_up.specs.declared.Outcome.{Outcome}
+use Rattle.counts_power_up.specs.declared.CountedRefusal.{CountedRefusal}
+use Rattle.counts_power_up.specs.declared.CountedRefusal.TheVariants.{PowerUp, Counts}
 use Rattle.counts_power_up.specs.declared.CountedAnswer.{CountedAnswer}
 
--- Power-up's own outcomes, and the two refusals of row and total.
-abbrev pub counted_outcome_of : CountedOutcome → power_up_rules.Outcome
-counted_outcome_of (PowerUp o) = outcome_of o
-counted_outcome_of (Counts r) = refusal (numbered (row_number r) 0)
+-- Power-up's own refusals and outcomes, and the two refusals of row and total.
+abbrev pub refusal_of : CountedRefusal → Refusal
+refusal_of (PowerUp r) = power_up_says r
+refusal_of (Counts r) = numbered (row_number r) 0
+
+abbrev pub counted_outcome_of : Result Outcome CountedRefusal → power_up_rules.Outcome
+counted_outcome_of (Ok o) = outcome_of (Ok o)
+counted_outcome_of (Err r) = refusal (refusal_of r)
 
 -- What a counted power-up answers and leaves: of its answer all but the total is power-up's.
 abbrev pub own_part : CountedAnswer → Flash → power_up_rules.PowerUp

@@ -1,3 +1,2 @@
--- The counted power-up: what it promises, and what its own functions require and answer.
+-- The counted power-up: what it promises.
 pub mod Delivered
-pub mod Inner

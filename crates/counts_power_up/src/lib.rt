@@ -9,70 +9,58 @@ ghost use Rattle.exchange.specs.Decision.{decide_within};
 ghost use Rattle.exchange.specs.PowerUp.{worked, carry_out, operations_in};
 ghost use Rattle.exchange_steps.specs.Lent.{bytes, SameFlash};
 ghost use Rattle.image.specs.Verdict.{check_of};
+ghost use Rattle.numbers.specs.Answer.{numbered};
 ghost use Rattle.numbers.specs.GivenBack.{reason_of};
 ghost use Rattle.power_up_decision.specs.Inner.{plan_of};
-ghost use Rattle.power_up.specs.Delivered.{answered};
+ghost use Rattle.power_up.specs.Delivered.{outcome_of, answered};
 ghost use Rattle.counts.specs.Row.{row_length, raised};
 ghost use Rattle.counts.specs.Claims.{RoomForM, Within32};
-ghost use Rattle.counts_power_up.specs.Delivered.{CountedDelivers};
-ghost use Rattle.counts_power_up.specs.Inner.{with_total, outside_answer, refused_answer};
+ghost use Rattle.counts_row.specs.Inner.{counts_says};
+ghost use Rattle.counts_power_up.specs.Delivered.{refusal_of, counted_outcome_of, CountedDelivers};
 
-use counts_row::RowAnswer;
+use counts_row::CountsFault;
 use exchange::Job;
 use exchange_steps::FlashMut;
-use flash::GeometryAnswer;
 use numbers::{PowerUpRefusal, RowRefusal, TurnDownReason};
 use power_up::{Outcome, PowerUpAnswer};
 use power_up_decision::Plan;
 
-// Power-up's own outcome; or the row or the total is refused.
-#[derive(Clone, Copy)]
-pub enum CountedOutcome {
-    PowerUp(Outcome),
+// Why a counted power-up is refused: power-up's own refusals, or those of the row or the total.
+#[derive(Clone, Copy, PartialEq, Eq)]
+pub enum CountedRefusal {
+    PowerUp(PowerUpRefusal),
     Counts(RowRefusal),
 }
 
+impl From<CountsFault> for CountedRefusal {
+    ghost from_gives = { λ c r. refusal_of r ≡ numbered (counts_says c).number (counts_says c).place };
+
+    fn from(fault: CountsFault) -> CountedRefusal {
+        match fault {
+            CountsFault::OutsideRules => CountedRefusal::PowerUp(PowerUpRefusal::OutsideRules),
+            CountsFault::Row(refusal) => CountedRefusal::Counts(refusal),
+        }
+    }
+}
+
 // Outcome, reason and count are power-up's; the total is the row's sum, or as it came where the call is refused with 1 or 19.
-#[derive(Clone, Copy)]
+#[derive(Clone, Copy, PartialEq, Eq)]
 pub struct CountedAnswer {
-    pub outcome: CountedOutcome,
-    pub reason: TurnDownReason,
+    pub outcome: Result<Outcome, CountedRefusal>,
+    pub reason: Option<TurnDownReason>,
     pub count: u64,
     pub total: u64,
 }
 
 // Power-up's answer, with the total beside it.
 fn with_total(a: PowerUpAnswer, total: u64) -> CountedAnswer
-    ensures { result ≡ with_total a total }
+    ensures outcome { counted_outcome_of result.outcome ≡ outcome_of a.outcome }
+    ensures others { (result.reason ≡ a.reason) × (result.count ≡ a.count) × (result.total ≡ total) }
 {
-    let outcome = a.outcome;
-    let reason = a.reason;
     CountedAnswer {
-        outcome: CountedOutcome::PowerUp(outcome),
-        reason,
+        outcome: a.outcome.map_err(CountedRefusal::PowerUp),
+        reason: a.reason,
         count: a.count,
-        total,
-    }
-}
-
-// Refused with 1.
-fn outside(total: u64) -> CountedAnswer
-    ensures { result ≡ outside_answer total }
-{
-    with_total(
-        power_up::idle(Outcome::Refused(PowerUpRefusal::OutsideRules)),
-        total,
-    )
-}
-
-// Refused for the row or the total.
-fn refused(r: RowRefusal, total: u64) -> CountedAnswer
-    ensures { result ≡ refused_answer r total }
-{
-    CountedAnswer {
-        outcome: CountedOutcome::Counts(r),
-        reason: TurnDownReason::None,
-        count: 0,
         total,
     }
 }
@@ -80,7 +68,7 @@ fn refused(r: RowRefusal, total: u64) -> CountedAnswer
 fn do_job(
     f: &mut FlashMut,
     job: Job,
-    reason: TurnDownReason,
+    reason: Option<TurnDownReason>,
     budget: u64,
     row: &mut [u32],
 ) -> PowerUpAnswer
@@ -104,7 +92,12 @@ fn do_job(
 }
 
 // What was decided, done.
-fn carry_out(f: &mut FlashMut, plan: Plan, budget: u64, row: &mut [u32]) -> PowerUpAnswer
+fn carry_out(
+    f: &mut FlashMut,
+    plan: Result<Plan, PowerUpRefusal>,
+    budget: u64,
+    row: &mut [u32],
+) -> PowerUpAnswer
     requires { (Shaped f.old.geometry (bytes f.old))
         × (plan_of plan ≡ decide_within check_of f.old.geometry f.old.boot.now f.old.update.now)
         × (length row.old ≡ row_length f.old.geometry) × (RoomForM f.old.geometry row.old) }
@@ -114,12 +107,12 @@ fn carry_out(f: &mut FlashMut, plan: Plan, budget: u64, row: &mut [u32]) -> Powe
         × (row.new ≡ raised f.old.geometry (operations_in f.old.geometry (bytes f.old) budget (plan_of plan)) row.old) }
 {
     match plan {
-        Plan::Refuse(refusal) => power_up::idle(Outcome::Refused(refusal)),
-        Plan::Plain => {
+        Err(refusal) => power_up::idle(Err(refusal)),
+        Ok(Plan::Plain) => {
             let boot = &mut *f.boot;
             power_up::idle(power_up::if_boot_good(f.geometry, Outcome::Run, boot))
         }
-        Plan::Work(job, reason) => do_job(f, job, reason, budget, row),
+        Ok(Plan::Work(job, reason)) => do_job(f, job, reason, budget, row),
     }
 }
 
@@ -137,23 +130,23 @@ pub fn power_up_counted(
     ensures { CountedDelivers sectors size (flash boot.old update.old swap.old) budget row.old total
         result (flash boot.new update.new swap.new) row.new }
 {
-    match flash::check_flash(sectors, size, boot, update, swap) {
-        GeometryAnswer::Fits(geometry) => match counts_row::check_row(geometry, row, total) {
-            RowAnswer::Counts => {
-                let plan = power_up_decision::decide(geometry, boot, update);
-                let mut f = FlashMut {
-                    geometry,
-                    boot,
-                    update,
-                    swap,
-                };
-                let a = carry_out(&mut f, plan, budget, row);
-                let sum = counts_row::sum_of(row);
-                with_total(a, sum)
-            }
-            RowAnswer::OtherLength => outside(total),
-            RowAnswer::Refused(r) => refused(r, total),
+    match counts_row::check_counted(sectors, size, boot, update, swap, row, total) {
+        Ok(geometry) => {
+            let plan = power_up_decision::decide(geometry, boot, update);
+            let mut f = FlashMut {
+                geometry,
+                boot,
+                update,
+                swap,
+            };
+            let a = carry_out(&mut f, plan, budget, row);
+            with_total(a, counts_row::sum_of(row))
+        }
+        Err(fault) => CountedAnswer {
+            outcome: Err(fault.into()),
+            reason: None,
+            count: 0,
+            total,
         },
-        GeometryAnswer::Outside => outside(total),
     }
 }

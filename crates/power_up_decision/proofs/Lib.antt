@@ -1,3 +1,3 @@
 -- The laws that the proofs of this crate cite, and those above it.
--- The statuses, as the code reads them
-pub mod Readings
+-- An image check's error, wrapped in a power-up's
+pub mod Mapped

@@ -1,68 +1,41 @@
 use mathlib.Core.Path.{ap, ◌∙◌}
 use native.Mathlib.Omega.{arith}
-use Rattle.numbers.specs.GivenBack.{row_number}
 use borrow.Author.Rules.{rules}
+use Rattle.numbers.specs.GivenBack.{refused_with}
 use Rattle.flash.specs.Buffers.{Flash, flash}
-use Rattle.flash.proofs.Answers.{flash_given_lem}
+use Rattle.flash.proofs.Checked.{shaped_of}
+use Rattle.exchange.specs.Commands.{Command}
 use Rattle.exchange_steps.proofs.Runs.{given_back}
-use Rattle.exchange_commands.specs.Numbers.{commanded}
 use Rattle.counts.proofs.FirstChecks.{found}
-use Rattle.counts_row.specs.Inner.{row_says}
-use Rattle.counts_arm.specs.declared.CountedArmAnswer.{CountedArmAnswer}
-use Rattle.counts_arm.specs.Delivered.{counted_commanded}
-use Rattle.counts_arm.proofs.Calls.{counted_outside, counted_refused, counted_inside}
+use Rattle.counts_arm.specs.Delivered.{counted_command_of}
+use Rattle.counts_arm.proofs.Calls.{not_counted, counted_inside}
 use Rattle.counts_arm.proofs.arm_counted.Goals as goal
 
-pub check_row-requires : goal.check_row-requires
-check_row-requires c = (flash_given_lem _ _ _ _ (rw c.in-Fits.is at c.check_flash.ensures)).limits
-
-pub obey-a-requires : goal.obey-a-requires
-obey-a-requires c =
-    let e = rw c.in-Fits.is at c.check_flash.ensures in
+pub obey-answer-requires : goal.obey-answer-requires
+obey-answer-requires c =
     let a = c.args in
     let f = flash a.boot.now a.update.now a.swap.now in
-    let t = found a.sectors a.size f a.row.now a.total _ e _ c.check_row.ensures (ap row_says c.in-Counts.is) in
-    (flash_given_lem _ _ _ _ e, t.long, t.room)
+    let t = found a.sectors a.size f a.row.now a.total c.in-Ok.ensures in
+    (shaped_of _ f t.fit, t.long, t.room)
 
-pub sum_of-sum-requires : goal.sum_of-sum-requires
-sum_of-sum-requires c =
-    let e = rw c.in-Fits.is at c.check_flash.ensures in
+pub sum_of-requires : goal.sum_of-requires
+sum_of-requires c =
     let a = c.args in
     let f = flash a.boot.now a.update.now a.swap.now in
-    let t = found a.sectors a.size f a.row.now a.total _ e _ c.check_row.ensures (ap row_says c.in-Counts.is) in
-    omega (arith, c.obey-a.auto.row, t.long, (flash_given_lem _ _ _ _ e).limits.many)
+    let t = found a.sectors a.size f a.row.now a.total c.in-Ok.ensures in
+    omega (arith, c.obey-answer.auto.row, t.long, (shaped_of _ f t.fit).limits.many)
 
-pub returns-in-Counts : goal.returns-in-Counts
-returns-in-Counts c =
-    let e = rw c.in-Fits.is at c.check_flash.ensures in
+pub returns-in-Ok : goal.returns-in-Ok
+returns-in-Ok c =
     let a = c.args in
-    let f = flash a.boot.now a.update.now a.swap.now in
-    let o = c.obey-a in
+    let o = c.obey-answer in
     let k = o.ensures.same in
     let left = given_back o.new.f (search (rules, k)) (search (rules, k)) (search (rules, k)) in
-    rw c.with_total.ensures
-    (counted_inside a.sectors a.size f a.row.now a.total _ e _ c.check_row.ensures (ap row_says c.in-Counts.is)
-    (commanded o.result _) _ _ (ap (λ (x : Flash). commanded o.result x) left ∙ o.ensures.answer.0) o.ensures.answer.1 c.sum_of-sum.ensures)
+    let did : Flash → Command = λ x. record { answer = counted_command_of o.result; flash = x } in
+    counted_inside a.sectors a.size (flash a.boot.now a.update.now a.swap.now) a.row.now a.total c.in-Ok.ensures (did _) _ _ (ap did left ∙ o.ensures.answer.0)
+    o.ensures.answer.1 c.sum_of.ensures
 
-pub returns-in-OtherLength : goal.returns-in-OtherLength
-returns-in-OtherLength c =
+pub returns-in-Err : goal.returns-in-Err
+returns-in-Err c =
     let a = c.args in
-    let f = flash a.boot.now a.update.now a.swap.now in
-    ap (λ (x : CountedArmAnswer). counted_commanded x f a.row.now) c.with_total-in-OtherLength.ensures
-    ∙ counted_refused a.sectors a.size f a.row.now a.total _ (rw c.in-Fits.is at c.check_flash.ensures) _ c.check_row.ensures 1 0
-    (ap row_says c.in-OtherLength.is)
-
-pub returns-in-Refused : goal.returns-in-Refused
-returns-in-Refused c =
-    let a = c.args in
-    let f = flash a.boot.now a.update.now a.swap.now in
-    rw c.refused.ensures
-    (counted_refused a.sectors a.size f a.row.now a.total _ (rw c.in-Fits.is at c.check_flash.ensures) _ c.check_row.ensures (row_number c.in-Refused.r) 0
-    (ap row_says c.in-Refused.is))
-
-pub returns-in-Outside : goal.returns-in-Outside
-returns-in-Outside c =
-    let a = c.args in
-    let f = flash a.boot.now a.update.now a.swap.now in
-    ap (λ (x : CountedArmAnswer). counted_commanded x f a.row.now) c.with_total-in-Outside.ensures
-    ∙ counted_outside a.sectors a.size f a.row.now a.total (rw c.in-Outside.is at c.check_flash.ensures)
+    not_counted a.sectors a.size (flash a.boot.now a.update.now a.swap.now) a.row.now a.total (ap refused_with c.into.ensures ∙ c.in-Err.ensures)
