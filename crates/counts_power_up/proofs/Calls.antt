@@ -1,12 +1,9 @@
 -- The counted power-up by its first checks.
-use mathlib.Core.Path.{◌≡◌, refl, sym, ap, ◌∙◌}
+use mathlib.Core.Path.{◌≡◌, refl, ap, ◌∙◌}
 use mathlib.Core.List.{List}
 use Prim.Native.Nat.{ℕ}
-use Rattle.std.specs.Prelude.{Result, Ok, Err, sum}
-use Rattle.std.specs.Result.{MatchResult, IsErrAnd}
-use Rattle.numbers.specs.declared.PowerUpRefusal.{PowerUpRefusal}
+use Rattle.std.specs.Prelude.{sum}
 use Rattle.numbers.specs.Answer.{gives, refused, numbered}
-use Rattle.numbers.specs.GivenBack.{power_up_says}
 use Rattle.flash.specs.declared.Geometry.{Geometry}
 use Rattle.flash.specs.Sizes.{geometry}
 use Rattle.flash.specs.Buffers.{Flash, Shaped}
@@ -15,8 +12,6 @@ use Rattle.exchange.specs.declared.Operation.{Operation}
 use Rattle.exchange.specs.Order.{operations}
 use Rattle.exchange.specs.Decision.{Check, Plan, decide_within, decide}
 use Rattle.exchange.specs.PowerUp.{PowerUp, refusal, idle, carry_out, power_up, operations_in, operations_of}
-use Rattle.power_up.specs.declared.Outcome.{Outcome}
-use Rattle.power_up.specs.Delivered.{outcome_of}
 use Rattle.counts.specs.Row.{raised}
 use Rattle.counts.specs.Calls.{counted_power_up}
 use Rattle.counts.specs.Claims.{RoomForM, Within32, hands_back}
@@ -24,16 +19,6 @@ use Rattle.counts.proofs.ToCome.{no_more_than_m}
 use Rattle.counts.proofs.Claimed.{stays}
 use Rattle.counts.proofs.FirstChecks.{asked_same, found, handed_back, worked}
 use Rattle.counts_row.specs.Inner.{counted_geometry}
-use Rattle.counts_power_up.specs.declared.CountedRefusal.{CountedRefusal}
-use Rattle.counts_power_up.specs.declared.CountedRefusal.TheVariants.{PowerUp as PowerUpRefused}
-use Rattle.counts_power_up.specs.Delivered.{counted_outcome_of}
-
--- power-up's outcome, its refusal wrapped
-pub wrapped : (r : Result Outcome PowerUpRefusal) (s : Result Outcome CountedRefusal)
-    → MatchResult r (λ x. s ≡ Ok x) (λ i. IsErrAnd s (λ e. e ≡ PowerUpRefused i)) → counted_outcome_of s ≡ outcome_of r
-wrapped (Ok x) s h = rw h refl
-wrapped (Err i) (Ok x) h = absurd h
-wrapped (Err i) (Err e) h = rw h refl
 
 module _ (n s : ℕ) (f : Flash) (check : Check) (budget : ℕ) (row : List ℕ) (total : ℕ) where
   abbrev refusing : ℕ → ℕ → PowerUp

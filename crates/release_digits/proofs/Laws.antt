@@ -3,6 +3,7 @@ use mathlib.Core.Path.{◌≡◌, refl, sym, ◌∙◌}
 use Prim.Native.Nat.{ℕ, zero, suc, ◌+◌, ◌-◌, ◌*◌, ◌≤◌, ◌<◌}
 use mathlib.Core.List.{List, [], ◌∷◌, ◌++◌, append_assoc, append-nil}
 use mathlib.Core.Bool.{Bool, true, false, ◌&&◌}
+use Rattle.std.proofs.Math.Bool.{and-false}
 use native.Mathlib.Omega.{arith}
 use native.Mathlib.Numerals.{add-one}
 use lib.ListN.{length, get_or, take, drop, set, drop_of_length-le}
@@ -16,11 +17,6 @@ use Rattle.release_digits.specs.Digits.{between, is_digit, all_digits, number_fr
 
 -- ---- tests
 
--- two tests, of which the second fails
-pub and_fails : (a : Bool) {b : Bool} → b ≡ false → a && b ≡ false
-and_fails true e = e
-and_fails false e = refl
-
 pub both : {a b : Bool} → a ≡ true → b ≡ true → a && b ≡ true
 both p q = rw (p, q)
 
@@ -28,7 +24,7 @@ pub inside : (a b c : ℕ) → a ≤ c → c ≤ b → between a b c ≡ true
 inside a b c p q = rw (le-leb a c p, le-leb c b q)
 
 pub above : (a b c : ℕ) → b < c → between a b c ≡ false
-above a b c p = and_fails (leb a c) (lt-leb c b p)
+above a b c p = rw (lt-leb c b p) (and-false (leb a c))
 
 -- a digit is one of "0" to "9", and a byte behind them is none
 pub not_above : (c : ℕ) → 57 < c → is_digit c ≡ false
@@ -117,9 +113,6 @@ bytes_next s j lt =
 -- The first i bytes stand in o, and those behind them are still to come.
 pub record Put (s o : List ℕ) (i : ℕ) : Type 0 where
   pub is : take i o ++ hex_bytes (drop (2 * i) s) ≡ hex_bytes s
-
-pub nothing_put : (s o : List ℕ) → Put s o 0
-nothing_put s o = record { is = refl }
 
 pub one_put : {s o : List ℕ} {i : ℕ} (x : ℕ) → Put s o i → i < length o → length s ≡ 2 * length o
     → x ≡ 16 * hex_digit (get_or s (2 * i) 0) + hex_digit (get_or s (2 * i + 1) 0) → Put s (set o i x) (i + 1)

@@ -1,10 +1,10 @@
 -- What one line says, by the tests on the way. Assumes nothing.
-use mathlib.Core.Path.{◌≡◌, refl, sym, ap, ◌∙◌}
+use mathlib.Core.Path.{◌≡◌, refl, sym, ◌∙◌}
 use Prim.Native.Nat.{ℕ, suc, ◌+◌, ◌-◌, ◌≤◌, ◌<◌}
 use mathlib.Core.List.{List, [], ◌∷◌, map}
 use mathlib.Core.Bool.{Bool, true, false, cond, not}
 use native.Mathlib.Omega.{arith}
-use lib.ListN.{length, get_or, take, drop, get_or-eq_default, length-drop}
+use lib.ListN.{length, get_or, take, drop, length-drop}
 use lib.Dec.{ltb, eqb}
 use lib.Pointwise.{pointwise, bytes_decides}
 use lib.Seq.{take_all}
@@ -18,7 +18,7 @@ use denote.Ref.{Bor}
 use Rattle.header_tags.specs.Bytes.{same}
 use Rattle.header_tags.proofs.Same.{test}
 use Rattle.release_lines.specs.Search.{index_after, index_of}
-use Rattle.release_lines.specs.Lines.{names, row_named, tests, well_formed, passed_over, line_of, LineRead}
+use Rattle.release_lines.specs.Lines.{names, row_named, well_formed, passed_over, line_of, LineRead}
 
 -- a part of a slice that goes to its end
 pub rest : (l : List ℕ) (from : ℕ) → take (length l - from) (drop from l) ≡ drop from l
@@ -75,10 +75,6 @@ row_is x (y ∷ rows) = go (same x y.now) (row_is x rows)
     go false e = omega (arith, e)
 
 -- ---- one line
-
--- no row has a value's test behind the last
-pub no_test : (row : ℕ) (v : List ℕ) → 5 ≤ row → well_formed row v ≡ false
-no_test row v le = ap (λ (t : List ℕ → Bool). t v) (get_or-eq_default tests (λ w. false) le)
 
 -- a name's row is one of as many, or their number
 pub row_bound : (rows : List (List ℕ)) (x : List ℕ) → row_named rows x ≤ length rows

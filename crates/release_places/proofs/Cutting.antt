@@ -1,7 +1,7 @@
 -- A text cut into its first line and the rest, and values by their places. Assumes nothing.
 use mathlib.Core.Path.{◌≡◌, refl, ap, ◌∙◌}
 use Prim.Native.Nat.{ℕ, zero, suc, ◌+◌, ◌-◌, ◌≤◌, ◌<◌}
-use mathlib.Core.List.{List, [], ◌∷◌, map}
+use mathlib.Core.List.{List, [], ◌∷◌}
 use mathlib.Core.Option.{none, some}
 use mathlib.Core.Bool.{Bool, true, false, cond, not}
 use native.Mathlib.Omega.{arith}
@@ -81,11 +81,6 @@ rest_of (c ∷ t) (suc k) le = go (eqb c 10) le (λ h. rest_of t k h)
     go false le h = h (omega arith)
 
 -- ---- values by their places
-
-pub map_set : {A B : Type 0} (f : A → B) (l : List A) (i : ℕ) (x : A) → map f (set l i x) ≡ set (map f l) i (f x)
-map_set f [] i x = refl
-map_set f (a ∷ l) zero x = refl
-map_set f (a ∷ l) (suc i) x = ap (λ (m : List _). f a ∷ m) (map_set f l i x)
 
 -- the first place that is 0 is the first row without a value
 pub missing_is : (text places : List ℕ) → position_or_len (λ p. eqb p 0) places ≡ missing_row (values_at text places)

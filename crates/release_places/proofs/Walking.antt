@@ -8,6 +8,7 @@ use native.Mathlib.Omega.{arith}
 use native.Mathlib.Numerals.{add-one}
 use lib.ListN.{length, get_or, take, drop, set, replicate, length-take, get_or-map}
 use lib.Seq.{drop-drop}
+use Rattle.std.proofs.lemmas.List.{map-set}
 use borrow.Author.Tests.{lt-ltb, le-ltb, ne_eqb}
 use Rattle.numbers.specs.Answer.{Answer, gives, refused, then}
 use Rattle.numbers.specs.GivenBack.{sheet_says, refused_with, sheet_answer}
@@ -17,7 +18,7 @@ use Rattle.release_lines.specs.Search.{index_of}
 use Rattle.release_lines.specs.Lines.{lines, line_of, entry_of, LineRead, types}
 use Rattle.release_places.specs.Judging.{Seen, keep, put, missing_row, complete, judge, judged, rest_of_line, value_at, values_at, Finds}
 use Rattle.release_places.proofs.Along.{not_given}
-use Rattle.release_places.proofs.Cutting.{then_same, line_first, nothing_left, line_to, rest_of, map_set}
+use Rattle.release_places.proofs.Cutting.{then_same, line_first, nothing_left, line_to, rest_of}
 
 -- From the place `at` on, line number n, with the values at these places seen, it goes as from the start.
 pub record Goes (text places : List ℕ) (at n : ℕ) : Type 0 where
@@ -78,7 +79,7 @@ module _ {text places : List ℕ} {at n e : ℕ} {r : Result (CodeOption Value) 
         let now : value_at text (at + v.from) ≡ some (drop v.from (rest_of_line text at)) =
         rw (ne_eqb (at + v.from) 0 (omega (arith, w.1)), rest) in
         let same : values_at text (set places v.row (at + v.from)) ≡ set (values_at text places) v.row (some (drop v.from (rest_of_line text at))) =
-        map_set (λ p. value_at text p) places v.row (at + v.from) ∙ ap (λ (w : Option (List ℕ)). set (values_at text places) v.row w) now in
+        map-set (λ p. value_at text p) places v.row (at + v.from) ∙ ap (λ (w : Option (List ℕ)). set (values_at text places) v.row w) now in
         record { is = rw same (rw empty at kept) }
 
 -- ---- behind the last line

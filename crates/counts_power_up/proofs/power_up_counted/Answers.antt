@@ -1,16 +1,13 @@
-use mathlib.Core.Path.{◌≡◌, ap, ◌∙◌}
+use mathlib.Core.Path.{ap, ◌∙◌}
 use native.Mathlib.Omega.{arith}
 use borrow.Author.Rules.{rules}
-use Rattle.numbers.specs.GivenBack.{refused_with}
 use Rattle.flash.specs.Buffers.{Flash, flash}
 use Rattle.flash.proofs.Checked.{boot_partition, update_partition, shaped_of}
-use Rattle.exchange.specs.PowerUp.{PowerUp}
 use Rattle.exchange_steps.proofs.Runs.{given_back}
 use Rattle.image.specs.Verdict.{check_of}
 use Rattle.power_up_decision.specs.Inner.{plan_of}
 use Rattle.power_up.specs.Delivered.{answered}
 use Rattle.counts.proofs.FirstChecks.{found}
-use Rattle.counts_power_up.specs.Delivered.{own_part}
 use Rattle.counts_power_up.proofs.Calls.{not_counted, counted_inside}
 use Rattle.counts_power_up.proofs.power_up_counted.Goals as goal
 
