@@ -51,9 +51,9 @@ pub fn mend<'a>(
 ) -> Result<Mended, MendRefusal>
     ensures { MendDelivers sectors size (flash boot.now update.old swap.now) result update.new }
 {
-    let geometry = flash::check_flash(sectors, size, boot, update, swap).ok_or(
-        MendRefusal::OutsideRules,
-    )?;
+    let Some(geometry) = flash::check_flash(sectors, size, boot, update, swap) else {
+        return Err(MendRefusal::OutsideRules);
+    };
     permit(geometry, boot, update)?;
     let flash = FlashRef {
         geometry,
@@ -61,7 +61,9 @@ pub fn mend<'a>(
         update,
         swap,
     };
-    let mark = mending_search::first_fitting(&flash).ok_or(MendRefusal::NoMarkFits)?;
+    let Some(mark) = mending_search::first_fitting(&flash) else {
+        return Err(MendRefusal::NoMarkFits);
+    };
     let bytes = mending_flags::write_flags(geometry, update, mark);
     Ok(Mended { mark, bytes })
 }
