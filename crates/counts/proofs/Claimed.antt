@@ -8,6 +8,7 @@ use native.Mathlib.Decide.{ℕ_discrete, dec_lt}
 use native.Mathlib.Omega.{arith}
 use lib.ListN.{length, get_or, get_or-eq_default}
 use borrow.Author.Tests.{eq-eqb, ne_eqb}
+use Rattle.std.specs.Prelude.{Option, Some, None, sum}
 use Rattle.numbers.specs.Answer.{Answer, gives, refused, numbered}
 use Rattle.numbers.specs.GivenBack.{count_of}
 use Rattle.numbers.specs.Every.{Every}
@@ -18,8 +19,6 @@ use Rattle.flash.proofs.Checked.{sectors_are, some_firmware, shaped_of}
 use Rattle.exchange.specs.declared.Area.TheVariants.{Update}
 use Rattle.exchange.specs.declared.Job.{Job}
 use Rattle.exchange.specs.declared.Operation.{Operation}
-use Rattle.exchange.specs.declared.Next.{Next}
-use Rattle.exchange.specs.declared.Next.TheVariants.{Do, Nothing}
 use Rattle.exchange.specs.Operations.{perform, perform_all, phase_after}
 use Rattle.exchange.specs.Order.{next_operation, operations}
 use Rattle.exchange.specs.Decision.{Check, Plan, refuse as turn_away, plain, work, decide_within, decide}
@@ -28,7 +27,7 @@ use Rattle.exchange.specs.Commands.{Command, command, checked, may_arm, arm_oper
 use Rattle.exchange.proofs.Runs.{operations_none, operations_some}
 use Rattle.exchange.proofs.RuledOut.{ruled_out}
 use Rattle.exchange_front.proofs.Ordered.{Ordered, next_ordered}
-use Rattle.counts.specs.Row.{row_length, slot, raised, sum, check_row}
+use Rattle.counts.specs.Row.{row_length, slot, raised, check_row}
 use Rattle.counts.specs.Calls.{Counted, check_counted, counted, counted_power_up, arm_done, counted_arm}
 use Rattle.counts.specs.Claims.{erases_at, CountsDone, where_taken, PowerUpCounts, ArmCounts, NoPlaceMoreThanM, RoomForM, Within32, StaysWithin32, ChecksFirst, RefusedInOrder}
 use Rattle.counts.proofs.Places.{slot_below}
@@ -45,10 +44,10 @@ unfolding operations
 run_below g G job zero p f = tt
 run_below g G job (suc n) p f = by (next_operation job g p f) refl (λ o. run_below g G job n (phase_after o) (perform g o f))
   where
-    by : (m : Next) → next_operation job g p f ≡ m → ((o : Operation) → SlotsBelow g (operations job g n (phase_after o) (perform g o f)))
+    by : (m : Option Operation) → next_operation job g p f ≡ m → ((o : Operation) → SlotsBelow g (operations job g n (phase_after o) (perform g o f)))
         → SlotsBelow g (operations job g (suc n) p f)
-    by Nothing e more = subst (SlotsBelow g) (sym (operations_none job g (suc n) p f e)) tt
-    by (Do o) e more = subst (SlotsBelow g) (sym (operations_some job g n p f o e)) (slot_below g G o (λ a i q. subst (Ordered g f.update) q (next_ordered g G job p f o e)), more o)
+    by None e more = subst (SlotsBelow g) (sym (operations_none job g (suc n) p f e)) tt
+    by (Some o) e more = subst (SlotsBelow g) (sym (operations_some job g n p f o e)) (slot_below g G o (λ a i q. subst (Ordered g f.update) q (next_ordered g G job p f o e)), more o)
 
 -- ---- the operations of a power-up: a claim on those of each job, where the flash fits, is a claim on them
 

@@ -1,9 +1,10 @@
 -- The places of the sectors, and what raises them.
-use mathlib.Core.Path.{◌≡◌, refl}
-use mathlib.Core.Option.{some}
-use Prim.Native.Nat.{ℕ, zero, suc, ◌<◌}
+use mathlib.Core.Path.{◌≡◌, refl, ◌∙◌}
+use Prim.Native.Nat.{ℕ, ◌<◌}
 use native.Mathlib.Omega.{arith}
 use lib.ListN.{replicate}
+use Rattle.std.specs.Prelude.{Some, sum}
+use Rattle.std.proofs.lemmas.List.Folds.{sum_by-replicate}
 use Rattle.flash.specs.declared.Geometry.{Geometry}
 use Rattle.flash.specs.declared.SectorNumber.{SectorNumber}
 use Rattle.flash.specs.Sizes.{firmware, Limits}
@@ -12,7 +13,7 @@ use Rattle.exchange.specs.declared.Area.{Area}
 use Rattle.exchange.specs.declared.Area.TheVariants.{Boot, Update, Swap}
 use Rattle.exchange.specs.declared.Operation.{Operation}
 use Rattle.exchange.specs.declared.Operation.TheVariants.{Erase, Copy, WriteFlag, EraseBootTrailer, EraseUpdateTrailer, WriteBootStatus, WriteUpdateStatus}
-use Rattle.counts.specs.Row.{row_length, slot, sum}
+use Rattle.counts.specs.Row.{row_length, slot}
 use Rattle.counts.specs.Claims.{PlacesInOrder, RaisedIsErased, ErasedIsRaised, SumOfCounts}
 use Rattle.counts.proofs.Rows.{SlotBelow, sum_raise}
 
@@ -54,8 +55,7 @@ slot_below g G (WriteBootStatus v) h = tt
 slot_below g G (WriteUpdateStatus v) h = tt
 
 zeros_sum : (n : ℕ) → sum (replicate n 0) ≡ 0
-zeros_sum zero = refl
-zeros_sum (suc n) = omega (arith, zeros_sum n)
+zeros_sum n = sum_by-replicate (λ x. x) n 0 ∙ omega arith
 
 pub sum_of_counts : SumOfCounts
-sum_of_counts = record { zeros = zeros_sum; one_more = λ row k b. omega (arith, sum_raise (some k) row b) }
+sum_of_counts = record { zeros = zeros_sum; one_more = λ row k b. omega (arith, sum_raise (Some k) row b) }

@@ -2,12 +2,12 @@
 -- one sector, and the operations that close a job erase each trailer once at most.
 use mathlib.Core.Path.{◌≡◌, refl, sym, ap, ◌∙◌, subst}
 use mathlib.Core.Logic.{◌≢◌}
-use mathlib.Core.Option.{some}
 use mathlib.Core.List.{List}
 use Prim.Native.Nat.{ℕ, zero, suc, ◌+◌, ◌-◌, ◌*◌, ◌≤◌, ◌<◌}
 use native.Mathlib.Decide.{ℕ_discrete, dec_lt}
 use native.Mathlib.Omega.{arith}
 use lib.ListN.{length}
+use Rattle.std.specs.Prelude.{Some, None}
 use Rattle.numbers.specs.Answer.{Answer, gives, refused}
 use Rattle.flash.specs.declared.Geometry.{Geometry}
 use Rattle.flash.specs.Sizes.{firmware, Limits}
@@ -35,7 +35,6 @@ use Rattle.exchange.specs.declared.Job.{Job}
 use Rattle.exchange.specs.declared.Job.TheVariants.{Update, Fallback, TurnDown}
 use Rattle.exchange.specs.declared.Operation.{Operation}
 use Rattle.exchange.specs.declared.Operation.TheVariants.{Erase, Copy, WriteFlag, EraseBootTrailer, EraseUpdateTrailer, WriteBootStatus}
-use Rattle.exchange.specs.declared.Next.TheVariants.{Do, Nothing}
 use Rattle.exchange.specs.Operations.{get, put, source, target, next_flag, leg_operation, phase_after, perform}
 use Rattle.exchange.specs.Order.{closing, exchange_next, ordered_by, next_operation, operations}
 use Rattle.exchange.proofs.Orders.{next_by_reads}
@@ -51,7 +50,7 @@ use Rattle.counts.proofs.Rows.{raises_here, raises_elsewhere}
 module _ (g : Geometry) (k : ℕ) where
   -- whether the sector i of an area has the place k, as a number
   abbrev pub at : Area → ℕ → ℕ
-  at a i = raises_at k (some (row_place g a i))
+  at a i = raises_at k (Some (row_place g a i))
 
   -- in sector i, from a phase of a leg on; and in r sectors from sector i on
   abbrev legs_from : ℕ → Leg → ℕ → ℕ
@@ -185,12 +184,12 @@ module _ (g : Geometry) (G : Limits g) (k : ℕ) where
         → boot_status_at g f.boot ≡ gives b → update_status_at g f.update ≡ gives u → e ≡ closing_of g k B → Trail job f p e
     turning_down : (b : BootStatus) → job ≡ TurnDown → Shaped g f → boot_status_at g f.boot ≡ gives b → update_status_at g f.update ≡ gives Updating
         → e ≡ at g k UpdateArea (firmware g) → Trail job f p e
-    at_end : next_operation job g p f ≡ Nothing → Trail job f p e
+    at_end : next_operation job g p f ≡ None → Trail job f p e
 
   -- one step: an erase of k is one of those that were to come
   data Steps (job : Job) (f : Flash) (p e : ℕ) : Type 0 where
-    steps : (o : Operation) (e' : ℕ) → next_operation job g p f ≡ Do o → raises_at k (slot g o) + e' ≤ e → Trail job (perform g o f) (phase_after o) e' → Steps job f p e
-    ends : next_operation job g p f ≡ Nothing → Steps job f p e
+    steps : (o : Operation) (e' : ℕ) → next_operation job g p f ≡ Some o → raises_at k (slot g o) + e' ≤ e → Trail job (perform g o f) (phase_after o) e' → Steps job f p e
+    ends : next_operation job g p f ≡ None → Steps job f p e
 
   next_busy : {job : Job} {b : BootStatus} {u : UpdateStatus} (B : Busy job b u) (p : ℕ) (f : Flash) (v : Flags)
       → boot_status_at g f.boot ≡ gives b → update_status_at g f.update ≡ gives u → flags_at g f.update ≡ v → next_operation job g p f ≡ exchange_next p v (last_of B)
@@ -206,7 +205,7 @@ module _ (g : Geometry) (G : Limits g) (k : ℕ) where
 
   module _ {job : Job} {b : BootStatus} {u : UpdateStatus} (B : Busy job b u) (i : ℕ) (leg : Leg) (hi : i < firmware g) (f : Flash) (s : Shaped g f)
       (h : AfterMoves g f.update (3 * i + leg_moves leg)) (e₁ : boot_status_at g f.boot ≡ gives b) (e₂ : update_status_at g f.update ≡ gives u) where
-    next_leg : (p : ℕ) → next_operation job g p f ≡ Do (leg_operation leg p (sector_number i))
+    next_leg : (p : ℕ) → next_operation job g p f ≡ Some (leg_operation leg p (sector_number i))
     next_leg p = next_busy B p f (at_leg i leg) e₁ e₂ (shown_leg g f.update i leg hi h) ∙ at_leg_next p i leg (last_of B)
 
     -- the leg's sector is written with y
@@ -319,7 +318,7 @@ module _ (g : Geometry) (G : Limits g) (k : ℕ) where
     bounded : most ≤ firmware g
     trail : Trail job f 0 most
 
-  nothing_next : (job : Job) (f : Flash) → next_operation job g 0 f ≡ Nothing → Begins job f
+  nothing_next : (job : Job) (f : Flash) → next_operation job g 0 f ≡ None → Begins job f
   nothing_next job f e = record { most = 0; bounded = omega arith; trail = at_end e }
 
   leg_part : (i : ℕ) (leg : Leg) → legs_from g k i leg 0 ≤ legs_from g k i UpdateToSwap 0
@@ -358,7 +357,7 @@ module _ (g : Geometry) (G : Limits g) (k : ℕ) where
     by_reads TurnDown b UpdateNew e₁ e₂ = nothing_next TurnDown f (next_by_reads TurnDown g 0 f b UpdateNew (flags_at g f.update) e₁ e₂ refl)
 
     unread : (job : Job) (B : Answer BootStatus) (U : Answer UpdateStatus) → boot_status_at g f.boot ≡ B → update_status_at g f.update ≡ U
-        → ordered_by job 0 B U (flags_at g f.update) ≡ Nothing → next_operation job g 0 f ≡ Nothing
+        → ordered_by job 0 B U (flags_at g f.update) ≡ None → next_operation job g 0 f ≡ None
     unfolding next_operation
     unread job B U e₁ e₂ n = rw (e₁, e₂) n
 

@@ -1,6 +1,6 @@
 -- Document 02, "Erase counts for the service sheet": power-up and arm with a row of counts and its total. Beyond these both do and answer
 -- as power-up and arm do.
-use Rattle.std.specs.Prelude.{cond, List, [], ℕ}
+use Rattle.std.specs.Prelude.{cond, List, [], ℕ, sum}
 use Rattle.numbers.specs.Answer.{Answer, gives, refused, numbered}
 use Rattle.flash.specs.declared.Geometry.{Geometry}
 use Rattle.flash.specs.Buffers.{Flash, fits}
@@ -8,7 +8,7 @@ use Rattle.exchange.specs.declared.Operation.{Operation}
 use Rattle.exchange.specs.Decision.{Check}
 use Rattle.exchange.specs.PowerUp.{PowerUp, refusal, idle, power_up, operations_of}
 use Rattle.exchange.specs.Commands.{Command, arm_operations, arm_command}
-use Rattle.counts.specs.Row.{raised, sum, check_row}
+use Rattle.counts.specs.Row.{raised, check_row}
 
 -- What a counted call answers and leaves: the uncounted call's own answer and flash, the row, and the total that goes out.
 pub record Counted (A : Type 0) : Type 0 where

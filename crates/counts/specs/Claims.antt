@@ -1,7 +1,6 @@
 -- Document 02, "Erase counts for the service sheet": what is claimed of the row, of the checks and of the counted calls. Each statement is
 -- proved in proofs/.
-use Rattle.std.specs.Prelude.{◌≡◌, ◌≢◌, true, false, cond, List, [], ◌∷◌, ℕ, suc, ◌+◌, ◌≤◌, ◌<◌, length, get_or, replicate, eqb}
-use Rattle.std.proofs.Math.Option.{Option, none, some}
+use Rattle.std.specs.Prelude.{◌≡◌, ◌≢◌, true, false, cond, List, [], ◌∷◌, ℕ, suc, ◌+◌, ◌≤◌, ◌<◌, length, get_or, replicate, eqb, Option, Some, None, sum}
 use Rattle.numbers.specs.Answer.{Answer, gives, refused, numbered}
 use Rattle.numbers.specs.GivenBack.{count_of}
 use Rattle.flash.specs.declared.Geometry.{Geometry}
@@ -17,7 +16,7 @@ use Rattle.exchange.specs.Operations.{put, perform, perform_all}
 use Rattle.exchange.specs.Decision.{Check}
 use Rattle.exchange.specs.PowerUp.{refusal, idle, power_up, operations_of}
 use Rattle.exchange.specs.Commands.{arm_command}
-use Rattle.counts.specs.Row.{row_length, row_place, slot, raise, sum}
+use Rattle.counts.specs.Row.{row_length, row_place, slot, raise}
 use Rattle.counts.specs.Calls.{Counted, check_counted, counted_power_up, arm_done, counted_arm}
 
 -- ---- the places
@@ -44,13 +43,13 @@ pub record Erases (g : Geometry) (o : Operation) (k : ℕ) : Type 0 where
   pub erases : (f : Flash) → perform g o f ≡ put g area sector (erased g.size) f
 
 abbrev pub RaisedIsErased : Type 0
-RaisedIsErased = (g : Geometry) (o : Operation) (k : ℕ) → slot g o ≡ some k → Erases g o k
+RaisedIsErased = (g : Geometry) (o : Operation) (k : ℕ) → slot g o ≡ Some k → Erases g o k
 
 -- And each erase raises its sector's place, whatever sector it is.
 pub record EachRaises (g : Geometry) : Type 0 where
-  pub sector : (a : Area) (i : SectorNumber) → slot g (Erase a i) ≡ some (row_place g a i.0)
-  pub boot_trailer : slot g EraseBootTrailer ≡ some (row_place g Boot (firmware g))
-  pub update_trailer : slot g EraseUpdateTrailer ≡ some (row_place g Update (firmware g))
+  pub sector : (a : Area) (i : SectorNumber) → slot g (Erase a i) ≡ Some (row_place g a i.0)
+  pub boot_trailer : slot g EraseBootTrailer ≡ Some (row_place g Boot (firmware g))
+  pub update_trailer : slot g EraseUpdateTrailer ≡ Some (row_place g Update (firmware g))
 
 abbrev pub ErasedIsRaised : Type 0
 ErasedIsRaised = (g : Geometry) → EachRaises g
@@ -58,22 +57,22 @@ ErasedIsRaised = (g : Geometry) → EachRaises g
 -- The sum is that of the counts: 0 where all are 0, and one more for each one more at a place.
 pub record SumOfCounts : Type 0 where
   pub zeros : (n : ℕ) → sum (replicate n 0) ≡ 0
-  pub one_more : (row : List ℕ) (k : ℕ) → k < length row → sum (raise (some k) row) ≡ suc (sum row)
+  pub one_more : (row : List ℕ) (k : ℕ) → k < length row → sum (raise (Some k) row) ≡ suc (sum row)
 
 -- ---- what a call counts
 
 -- How many of some operations raise the place k, and how many raise any.
 abbrev pub raises_at : ℕ → Option ℕ → ℕ
-raises_at k none = 0
-raises_at k (some j) = cond (eqb j k) 1 0
+raises_at k None = 0
+raises_at k (Some j) = cond (eqb j k) 1 0
 
 abbrev pub erases_at : Geometry → ℕ → List Operation → ℕ
 erases_at g k [] = 0
 erases_at g k (o ∷ os) = raises_at k (slot g o) + erases_at g k os
 
 abbrev pub raises_some : Option ℕ → ℕ
-raises_some none = 0
-raises_some (some j) = 1
+raises_some None = 0
+raises_some (Some j) = 1
 
 abbrev pub erases_in : Geometry → List Operation → ℕ
 erases_in g [] = 0

@@ -1,6 +1,6 @@
 -- Document 02, "Erase counts for the service sheet": the row of counts, what raises it, and the checks before the work.
-use Rattle.std.specs.Prelude.{Bool, true, false, cond, List, [], ◌∷◌, ℕ, suc, ◌+◌, ◌-◌, ◌*◌, length, get_or, set, eqb, ltb}
-use Rattle.std.proofs.Math.Option.{Option, none, some}
+use Rattle.std.specs.Prelude.{cond, Option, Some, None, List, [], ◌∷◌, ℕ, suc, ◌+◌, ◌-◌, ◌*◌, length, get_or, set, eqb, ltb, sum}
+use Rattle.std.specs.List.{list_any}
 use Rattle.numbers.specs.Answer.{Answer, gives, refused}
 use Rattle.flash.specs.declared.Geometry.{Geometry}
 use Rattle.flash.specs.Sizes.{firmware}
@@ -24,18 +24,18 @@ row_place g Swap i = 2 * g.sectors
 -- The place that an operation raises: that of the sector which it erases, if it is an erase. The trailer sector is the one behind the
 -- firmware sectors.
 abbrev pub slot : Geometry → Operation → Option ℕ
-slot g (Erase a i) = some (row_place g a i.0)
-slot g (Copy leg i) = none
-slot g (WriteFlag i v) = none
-slot g EraseBootTrailer = some (row_place g Boot (firmware g))
-slot g EraseUpdateTrailer = some (row_place g Update (firmware g))
-slot g (WriteBootStatus v) = none
-slot g (WriteUpdateStatus v) = none
+slot g (Erase a i) = Some (row_place g a i.0)
+slot g (Copy leg i) = None
+slot g (WriteFlag i v) = None
+slot g EraseBootTrailer = Some (row_place g Boot (firmware g))
+slot g EraseUpdateTrailer = Some (row_place g Update (firmware g))
+slot g (WriteBootStatus v) = None
+slot g (WriteUpdateStatus v) = None
 
 -- One more at a place; and the row after some operations, each erase of which adds one to its place.
 abbrev pub raise : Option ℕ → List ℕ → List ℕ
-raise none row = row
-raise (some k) row = set row k (suc (get_or row k 0))
+raise None row = row
+raise (Some k) row = set row k (suc (get_or row k 0))
 
 abbrev pub raised : Geometry → List Operation → List ℕ → List ℕ
 raised g [] row = row
@@ -43,18 +43,10 @@ raised g (o ∷ os) row = raised g os (raise (slot g o) row)
 
 -- ---- the checks before the work
 
-abbrev pub sum : List ℕ → ℕ
-sum [] = 0
-sum (c ∷ cs) = c + sum cs
-
-abbrev pub some_above : ℕ → List ℕ → Bool
-some_above limit [] = false
-some_above limit (c ∷ cs) = cond (ltb limit c) true (some_above limit cs)
-
 -- A row of another length is 1; then a total that is not the row's sum is 19; then some count, wherever in the row, that is greater than
 -- 4,294,967,295 − m is 20.
 abbrev pub check_row : Geometry → List ℕ → ℕ → Answer (Unit {0})
 check_row g row total =
     cond (eqb (length row) (row_length g))
-    (cond (eqb (sum row) total) (cond (some_above (4294967295 - firmware g) row) (refused 20 0) (gives tt)) (refused 19 0))
+    (cond (eqb (sum row) total) (cond (list_any (ltb (4294967295 - firmware g)) row) (refused 20 0) (gives tt)) (refused 19 0))
     (refused 1 0)

@@ -1,2 +1,2 @@
--- The law that the proofs of this crate cite.
+-- The laws that the proofs of this crate cite.
 mod Inside

@@ -1,25 +1,28 @@
 -- What the functions of this crate require and answer.
-use Rattle.std.proofs.Math.Option.{Option, none, some}
-use Rattle.std.specs.Prelude.{List, ℕ, ◌<◌, get_or}
-use Rattle.numbers.specs.Answer.{Answer, gives, refused}
-use Rattle.numbers.specs.GivenBack.{row_number}
-use Rattle.counts_row.specs.declared.RowAnswer.{RowAnswer}
-use Rattle.counts_row.specs.declared.RowAnswer.TheVariants.{Counts, OtherLength, Refused}
-use Rattle.counts_row.specs.declared.Slot.{Slot}
-use Rattle.counts_row.specs.declared.Slot.TheVariants.{Place, None}
+use Rattle.std.specs.Prelude.{List, ℕ, ◌<◌, get_or, Option, Some, None, Result}
+use Rattle.numbers.specs.declared.Refused.{Refused}
+use Rattle.numbers.specs.Answer.{Answer, gives, then}
+use Rattle.numbers.specs.GivenBack.{refused_at, answer_by, row_number}
+use Rattle.flash.specs.declared.Geometry.{Geometry}
+use Rattle.flash.specs.Sizes.{geometry}
+use Rattle.flash.specs.Buffers.{Flash}
+use Rattle.counts.specs.Calls.{check_counted}
+use Rattle.counts_row.specs.declared.CountsFault.{CountsFault}
+use Rattle.counts_row.specs.declared.CountsFault.TheVariants.{OutsideRules, Row}
 
--- what the checks of a row and its total find, by the papers' numbers
-abbrev pub row_says : RowAnswer → Answer (Unit {0})
-row_says Counts = gives tt
-row_says OtherLength = refused 1 0
-row_says (Refused r) = refused (row_number r) 0
+-- what the checks that come first find, by the papers' numbers
+abbrev pub counts_says : CountsFault → Refused
+counts_says OutsideRules = refused_at 1 0
+counts_says (Row r) = refused_at (row_number r) 0
 
--- the place that an operation raises, or none
-abbrev pub slot_of : Slot → Option ℕ
-slot_of (Place k) = some k
-slot_of None = none
+abbrev pub counts_answer : {A : Type 0} → Result A CountsFault → Answer A
+counts_answer = answer_by counts_says
+
+-- the geometry that was asked for, where these checks take everything
+abbrev pub counted_geometry : ℕ → ℕ → Flash → List ℕ → ℕ → Answer Geometry
+counted_geometry n s f row total = then (check_counted (geometry n s) f row total) (λ t. gives (geometry n s))
 
 -- the place can be raised within 32 bits
 abbrev pub RoomFor : Option ℕ → List ℕ → Type 0
-RoomFor none row = Unit {0}
-RoomFor (some k) row = get_or row k 0 < 4294967295
+RoomFor None row = Unit {0}
+RoomFor (Some k) row = get_or row k 0 < 4294967295

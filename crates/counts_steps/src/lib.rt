@@ -13,7 +13,7 @@ ghost use Rattle.counts.specs.Row.{row_length, raised};
 ghost use Rattle.counts.specs.Claims.{Within32};
 ghost use Rattle.counts_steps.specs.Inner.{RoomForNext, CountedSteps};
 
-use exchange::{Job, Next};
+use exchange::Job;
 use exchange_front::Progress;
 use exchange_steps::{FlashMut, StepAnswer};
 
@@ -26,10 +26,8 @@ pub fn do_next_counted(f: &mut FlashMut, job: Job, at: Progress, row: &mut [u32]
     ensures step { CountedSteps job f.old.geometry at (bytes f.old) row.old result (bytes f.new) row.new }
 {
     let step = f.do_next(job, at);
-    let next = step.next;
-    match next {
-        Next::Do(op) => counts_row::count_done(f.geometry, op, row),
-        Next::Nothing => {}
+    if let Some(op) = step.done {
+        counts_row::count_done(f.geometry, op, row);
     }
     step
 }
@@ -48,15 +46,10 @@ pub fn repeat_counted(f: &mut FlashMut, job: Job, budget: u64, row: &mut [u32]) 
     let mut at = exchange_front::begin(f.geometry, update, budget);
     while 0 < at.left {
         let step = do_next_counted(f, job, at, row);
-        let next = step.next;
-        match next {
-            Next::Do(_) => {
-                at = step.progress;
-            }
-            Next::Nothing => {
-                return at;
-            }
+        if step.done.is_none() {
+            return at;
         }
+        at = step.progress;
     }
     at
 }

@@ -4,9 +4,9 @@ use Rattle.counts_row.proofs.count_done.Goals as goal
 pub bounds-row-k : goal.bounds-row-k
 bounds-row-k c =
     let q = c.requires in
-    inside c.args.g q.0 c.args.op c.args.row.now q.1 _ c.slot_of.ensures _ c.in-Place.is q.2
+    inside _ q.0 c.args.op _ q.1 c.in-Some.ensures q.2
 
-pub bounds-row-k-in-Place : goal.bounds-row-k-in-Place
-bounds-row-k-in-Place c =
+pub bounds-row-k-in-Some : goal.bounds-row-k-in-Some
+bounds-row-k-in-Some c =
     let q = c.requires in
-    inside c.args.g q.0 c.args.op c.args.row.now q.1 _ c.slot_of.ensures _ c.in-Place.is q.2
+    inside _ q.0 c.args.op _ q.1 c.in-Some.ensures q.2

@@ -3,7 +3,7 @@ use native.Mathlib.Omega.{arith}
 use Rattle.flash.specs.Buffers.{Flash}
 use Rattle.exchange_front.proofs.Follows.{current_within}
 use Rattle.exchange_steps.specs.Lent.{bytes}
-use Rattle.exchange_steps.proofs.Runs.{shaped_kept, same_again, current_same, run_on, left_on, current_on, run_over, run_spent}
+use Rattle.exchange_steps.proofs.Runs.{did, did_none, shaped_kept, same_again, current_same, run_on, left_on, current_on, run_over, run_spent}
 use Rattle.counts.specs.Claims.{Within32}
 use Rattle.counts_steps.proofs.Counting.{row_on, row_over, row_spent, room_next}
 use Rattle.counts_steps.proofs.repeat_counted.Goals as goal
@@ -27,7 +27,7 @@ loop-at-preserved c =
     let g = a.f.now.geometry in
     let s = c.do_next_counted-step in
     let f = bytes l.f in
-    let n = c.in-Do.is in
+    let n = (did s.result.done c.if-is_none.ensures).1 in
     let step = rw l.invariant.4.geometry at s.ensures.step in
     let y = step.steps.ruled l.invariant.2 in
     let z = step.steps.scanned l.invariant.2 in
@@ -41,20 +41,20 @@ loop-at-preserved c =
       row_on a.job g a.budget l.at f _ s.result y l.row _ step.counts _ n z (omega (arith, c.loop-at-test.true)) ∙ l.invariant.6,
     )
 
-pub returns-in-Nothing-clause-same : goal.returns-in-Nothing-clause-same
-returns-in-Nothing-clause-same c =
+pub returns-then-is_none-clause-same : goal.returns-then-is_none-clause-same
+returns-then-is_none-clause-same c =
     let l = c.loop-at in
     same_again _ l.f c.do_next_counted-step.new.f l.invariant.4 c.do_next_counted-step.ensures.same
 
-pub returns-in-Nothing-clause-steps : goal.returns-in-Nothing-clause-steps
-returns-in-Nothing-clause-steps c =
+pub returns-then-is_none-clause-steps : goal.returns-then-is_none-clause-steps
+returns-then-is_none-clause-steps c =
     let l = c.loop-at in
     let a = c.args in
     let g = a.f.now.geometry in
     let s = c.do_next_counted-step in
     let step = rw l.invariant.4.geometry at s.ensures.step in
     let y = step.steps.ruled l.invariant.2 in
-    let n = c.in-Nothing.is in
+    let n = did_none s.result.done c.if-is_none.ensures in
     let o = run_over a.job g a.budget l.at (bytes l.f) _ s.result y n (omega (arith, c.loop-at-test.true)) in (
       o.0 ∙ l.invariant.3,
       row_over a.job g a.budget l.at (bytes l.f) _ s.result y l.row _ step.counts n ∙ l.invariant.6,
