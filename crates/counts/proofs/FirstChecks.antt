@@ -1,13 +1,14 @@
 -- A counted call, asked for n sectors of s bytes, by its first checks: for power-up and arm alike.
 use mathlib.Core.Path.{◌≡◌, refl, sym, ap, ◌∙◌}
+use mathlib.Core.Bool.{Bool, true, false, cond}
 use mathlib.Core.List.{List}
 use Prim.Native.Nat.{ℕ}
 use native.Mathlib.Omega.{arith}
 use Rattle.std.specs.Prelude.{sum}
 use Rattle.numbers.specs.Answer.{Answer, gives, refused, then}
 use Rattle.flash.specs.declared.Geometry.{Geometry}
-use Rattle.flash.specs.Sizes.{geometry}
-use Rattle.flash.specs.Buffers.{Flash, flash_of}
+use Rattle.flash.specs.Sizes.{geometry, geometry_where}
+use Rattle.flash.specs.Buffers.{Flash, fits, flash_of}
 use Rattle.flash.proofs.Answers.{flash_asked, flash_fits, flash_unfit}
 use Rattle.exchange.specs.declared.Operation.{Operation}
 use Rattle.counts.specs.Row.{raised, check_row}
@@ -35,8 +36,13 @@ module _ (n s : ℕ) (f : Flash) (row : List ℕ) (total : ℕ) where
 
   -- ---- the checks, one after the other
 
-  pub asked_outside : refused 1 0 ≡ flash_of n s f → refused 1 0 ≡ asked
-  asked_outside e = rw (unfit (geometry n s) f row total (flash_unfit n s f e)) refl
+  pub asked_outside : {m p : ℕ} → refused m p ≡ flash_of n s f → refused m p ≡ asked
+  unfolding flash_of check_counted
+  asked_outside {m} {p} e = by (fits (geometry n s) f) e
+    where
+      by : (b : Bool) → refused m p ≡ geometry_where b n s → refused m p ≡ then (cond b (check_row (geometry n s) row total) (refused 1 0)) (λ t. gives (geometry n s))
+      by true e = absurd (let z : ◌≡◌ {A = ℕ} 0 1 = cc in omega arith)
+      by false e = e
 
   module _ {g : Geometry} (e : gives g ≡ flash_of n s f) where
     checked : check_counted (geometry n s) f row total ≡ check_row g row total

@@ -1,8 +1,16 @@
+use mathlib.Core.Path.{sym, ◌∙◌}
 use Rattle.image.proofs.Verdicts.{checked}
 use Rattle.power_up_decision.proofs.accept_fallback.Goals as goal
 
-pub returns-in-Good : goal.returns-in-Good
-returns-in-Good c = rw (checked c.args.g c.args.update.now _ c.judge_partition.ensures c.in-Good.is)
+pub returns-in_err-map_err : goal.returns-in_err-map_err
+returns-in_err-map_err c =
+    let h = c.in_err-map_err.ensures.cases in
+    let k = c.from_residual.ensures in
+    let j = c.judge_partition.ensures in
+    ?
 
-pub returns-in-Bad : goal.returns-in-Bad
-returns-in-Bad c = rw (checked c.args.g c.args.update.now _ c.judge_partition.ensures c.in-Bad.is)
+pub returns : goal.returns
+returns c =
+    let h = c.in_ok-map_err.ensures.cases in
+    let e = checked c.args.g c.args.update.now c.judge_partition.ensures in
+    ?
