@@ -21,15 +21,12 @@ pub fn put_stated(numbers: &mut [u64], bytes: &mut [u8], line: u64, v: Stated)
     requires { (length numbers.old ≡ 5) × (length bytes.old ≡ 96) }
     ensures { (numbers.new ≡ sheet_numbers line v) × (bytes.new ≡ sheet_bytes v) }
 {
-    let row = [
+    numbers.copy_from_slice(&[
         line,
         v.version as u64,
         v.timestamp,
         v.auth_type as u64,
-        c_headers::of_bool(v.has_hint),
-    ];
-    c_headers::put_numbers(numbers, &row);
-    let signature = v.signature;
-    let hint = v.hint;
-    put_pair(bytes, signature, hint);
+        v.has_hint as u64,
+    ]);
+    put_pair(bytes, v.signature, v.hint);
 }

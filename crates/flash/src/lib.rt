@@ -61,6 +61,7 @@ impl Geometry {
     }
 
     // Document 01's m, which is also the number of the trailer sector.
+    #[tactic(auto, unfolding(crate::specs::Sizes::firmware))]
     pub fn firmware_sectors(self) -> usize
         requires { Limits self }
         ensures { result ≡ firmware self }
@@ -78,6 +79,7 @@ pub fn offset_of(g: Geometry, i: SectorNumber) -> ByteOffset
 }
 
 // The bytes of a partition: those before its trailer sector, and the trailer sector.
+#[tactic(auto, using(crate::proofs::Checked::sectors_are, crate::proofs::Checked::size_split))]
 pub fn partition_size(g: Geometry) -> usize
     requires { Limits g }
     ensures { result ≡ partition_size g }

@@ -40,6 +40,7 @@ impl TryFrom<u8> for Flag {
 
     ghost try_from_gives = { λ half r. result_ok r ≡ flag_of half };
 
+    #[tactic(auto, unfolding(crate::specs::SectorFlags::flag_of))]
     fn try_from(half: u8) -> Result<Flag, UnknownFlag> {
         match half {
             Flag::UNTOUCHED => Ok(Flag::Untouched),
@@ -65,6 +66,7 @@ impl From<Flag> for u8 {
 }
 
 // Where the byte is that holds the flag of firmware sector i: before the status byte, two flags to a byte.
+#[tactic(auto, using(crate::proofs::Room::flag_room), unfolding(crate::specs::SectorFlags::flag_byte))]
 pub fn flag_offset(g: Geometry, i: SectorNumber) -> ByteOffset
     requires { (Limits g) × (i.0 < firmware g) }
     ensures { result.0 ≡ flag_byte g i.0 }
@@ -73,6 +75,7 @@ pub fn flag_offset(g: Geometry, i: SectorNumber) -> ByteOffset
 }
 
 // The half of the byte that holds sector i's flag: the low half for even i.
+#[tactic(auto, unfolding(crate::specs::SectorFlags::half))]
 fn half_of(byte: u8, i: SectorNumber) -> u8
     ensures { result ≡ half i.0 byte }
 {
@@ -80,6 +83,7 @@ fn half_of(byte: u8, i: SectorNumber) -> u8
 }
 
 // The byte with that half set to `value`, and the other half kept.
+#[tactic(auto, unfolding(crate::specs::SectorFlags::with_half))]
 fn with_half(byte: u8, i: SectorNumber, value: u8) -> u8
     requires { value < 16 }
     ensures { result ≡ with_half i.0 byte value }
@@ -92,6 +96,7 @@ fn with_half(byte: u8, i: SectorNumber, value: u8) -> u8
 }
 
 // The flag of firmware sector i, or none for a half byte that is no flag.
+#[tactic(auto, using(crate::proofs::Room::flag_inside), unfolding(crate::specs::SectorFlags::flag_at))]
 pub fn read_flag(g: Geometry, update: &[u8], i: SectorNumber) -> Option<Flag>
     requires { (Partition g update.now) × (i.0 < firmware g) }
     ensures { result ≡ flag_at g update.now i.0 }
@@ -101,6 +106,7 @@ pub fn read_flag(g: Geometry, update: &[u8], i: SectorNumber) -> Option<Flag>
 }
 
 // Sets the flag of firmware sector i: its half byte, and no other.
+#[tactic(auto, using(crate::proofs::Room::flag_inside), unfolding(crate::specs::SectorFlags::set_flag))]
 pub fn write_flag(g: Geometry, update: &mut [u8], i: SectorNumber, flag: Flag)
     requires { (Partition g update.old) × (i.0 < firmware g) }
     ensures { update.new ≡ set_flag g i.0 flag update.old }

@@ -9,6 +9,7 @@ ghost use Rattle.flash_sectors.specs.Copying.{copied, copy_of};
 use flash::{Geometry, SectorNumber};
 
 // Erases a sector, which is lent itself: a part of BOOT or of UPDATE from the sector's offset on, or SWAP.
+#[tactic(auto, unfolding(flash::specs::Sectors::erased))]
 pub fn erase(sector: &mut [u8])
     ensures { sector.new ≡ erased (length sector.old) }
 {
@@ -20,6 +21,7 @@ pub fn erase(sector: &mut [u8])
 pub struct UnequalLengths;
 
 // Copies one sector over another; both are lent themselves, as for an erase.
+#[tactic(auto, unfolding(crate::specs::Copying::copy_of))]
 pub fn copy(target: &mut [u8], source: &[u8]) -> Result<(), UnequalLengths>
     ensures { copied result target.new ≡ copy_of target.old source.now }
 {
@@ -31,6 +33,7 @@ pub fn copy(target: &mut [u8], source: &[u8]) -> Result<(), UnequalLengths>
 }
 
 // Erases sector i of a partition.
+#[tactic(auto, using(crate::proofs::Lent::part_erased))]
 pub fn erase_sector(g: Geometry, partition: &mut [u8], i: SectorNumber)
     requires { (Partition g partition.old) × (i.0 < g.sectors) }
     ensures { partition.new ≡ write_sector g i.0 (erased g.size) partition.old }
@@ -41,6 +44,7 @@ pub fn erase_sector(g: Geometry, partition: &mut [u8], i: SectorNumber)
 }
 
 // Copies sector i of a partition to SWAP.
+#[tactic(auto, using(crate::proofs::Lent::part_read))]
 pub fn copy_to_swap(g: Geometry, swap: &mut [u8], partition: &[u8], i: SectorNumber)
     requires { (Partition g partition.now) × (i.0 < g.sectors) × (length swap.old ≡ g.size) }
     ensures { swap.new ≡ sector_of g i.0 partition.now }
@@ -51,6 +55,7 @@ pub fn copy_to_swap(g: Geometry, swap: &mut [u8], partition: &[u8], i: SectorNum
 }
 
 // Copies SWAP to sector i of a partition.
+#[tactic(auto, using(crate::proofs::Lent::part_put))]
 pub fn copy_from_swap(g: Geometry, partition: &mut [u8], swap: &[u8], i: SectorNumber)
     requires { (Partition g partition.old) × (i.0 < g.sectors) × (length swap.now ≡ g.size) }
     ensures { partition.new ≡ write_sector g i.0 swap.now partition.old }
@@ -61,6 +66,7 @@ pub fn copy_from_swap(g: Geometry, partition: &mut [u8], swap: &[u8], i: SectorN
 }
 
 // Copies sector i of one partition to sector i of the other.
+#[tactic(auto, using(crate::proofs::Lent::part_put, crate::proofs::Lent::part_read, flash::proofs::Bytes::length_part))]
 pub fn copy_sector(g: Geometry, target: &mut [u8], source: &[u8], i: SectorNumber)
     requires { (Partition g target.old) × (i.0 < g.sectors) × (length source.now ≡ partition_size g) }
     ensures { target.new ≡ write_sector g i.0 (sector_of g i.0 source.now) target.old }
@@ -71,6 +77,7 @@ pub fn copy_sector(g: Geometry, target: &mut [u8], source: &[u8], i: SectorNumbe
 }
 
 // The firmware sectors of a partition.
+#[tactic(auto, using(flash::proofs::Checked::sectors_are))]
 pub fn firmware_part(g: Geometry, partition: &[u8]) -> &[u8]
     requires { Partition g partition.now }
     ensures { result.now ≡ firmware_of g partition.now }

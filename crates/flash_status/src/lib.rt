@@ -34,6 +34,7 @@ impl TryFrom<u8> for BootStatus {
 
     ghost try_from_gives = { λ byte r. status_answer r ≡ boot_status_of byte };
 
+    #[tactic(auto, unfolding(crate::specs::StatusBytes::boot_status_of))]
     fn try_from(byte: u8) -> Result<BootStatus, UnknownStatus> {
         match byte {
             BootStatus::NEW => Ok(BootStatus::New),
@@ -74,6 +75,7 @@ impl TryFrom<u8> for UpdateStatus {
 
     ghost try_from_gives = { λ byte r. status_answer r ≡ update_status_of byte };
 
+    #[tactic(auto, unfolding(crate::specs::StatusBytes::update_status_of))]
     fn try_from(byte: u8) -> Result<UpdateStatus, UnknownStatus> {
         match byte {
             UpdateStatus::NEW => Ok(UpdateStatus::New),
@@ -103,6 +105,7 @@ fn status_offset(g: Geometry) -> ByteOffset
 }
 
 // The status of a partition: BOOT's as a `BootStatus`, UPDATE's as an `UpdateStatus`.
+#[tactic(auto, unfolding(crate::specs::StatusBytes::status_byte))]
 pub fn read_status<S: TryFrom<u8>>(g: Geometry, partition: &[u8]) -> Result<S, S::Error>
     requires { Partition g partition.now }
     ensures { S.try_from_gives (status_byte g partition.now) result }
@@ -111,6 +114,7 @@ pub fn read_status<S: TryFrom<u8>>(g: Geometry, partition: &[u8]) -> Result<S, S
 }
 
 // Sets the status of a partition to the byte that it is, and no other byte.
+#[tactic(auto, unfolding(crate::specs::StatusBytes::set_status_byte))]
 pub fn write_status<S: Into<u8>>(g: Geometry, partition: &mut [u8], status: S)
     requires { Partition g partition.old }
     ensures { (byte : ℕ) × S.converts status byte
