@@ -1,7 +1,7 @@
 // Power-up on three lent buffers: BOOT, UPDATE and SWAP.
 #![tactic(auto)]
 
-ghost use Rattle.std.specs.Prelude.{◌≡◌, ◌≤◌};
+ghost use Rattle.std.specs.Prelude.{◌≡◌, ◌≤◌, Ok};
 ghost use Rattle.flash.specs.Sizes.{firmware};
 ghost use Rattle.flash.specs.Sectors.{Partition};
 ghost use Rattle.flash.specs.Buffers.{flash, Shaped};
@@ -17,18 +17,16 @@ ghost use Rattle.power_up_decision.specs.Inner.{plan_of};
 ghost use Rattle.power_up.specs.Delivered.{outcome_of, answered, Delivers};
 ghost use Rattle.power_up.specs.Inner.{idle_answer};
 
-use exchange::{Job, Next};
+use exchange::Job;
 use exchange_front::Progress;
 use exchange_steps::FlashMut;
-use flash::{Geometry, GeometryAnswer};
-use image::ImageVerdict;
+use flash::Geometry;
 use numbers::{PowerUpRefusal, TurnDownReason};
 use power_up_decision::Plan;
 
-// Document 01's "cut", "run", "run on test" and "run, fallen back", or a refusal.
-#[derive(Clone, Copy)]
+// Document 01's "cut", "run", "run on test" and "run, fallen back".
+#[derive(Clone, Copy, PartialEq, Eq)]
 pub enum Outcome {
-    Refused(PowerUpRefusal),
     Cut,
     Run,
     RunOnTest,
@@ -36,38 +34,36 @@ pub enum Outcome {
 }
 
 // The count is that of the operations done.
-#[derive(Clone, Copy)]
+#[derive(Clone, Copy, PartialEq, Eq)]
 pub struct PowerUpAnswer {
-    pub outcome: Outcome,
-    pub reason: TurnDownReason,
+    pub outcome: Result<Outcome, PowerUpRefusal>,
+    pub reason: Option<TurnDownReason>,
     pub count: u64,
 }
 
 // An answer without operations.
-pub fn idle(outcome: Outcome) -> PowerUpAnswer
+pub fn idle(outcome: Result<Outcome, PowerUpRefusal>) -> PowerUpAnswer
     ensures { result ≡ idle_answer outcome }
 {
     PowerUpAnswer {
         outcome,
-        reason: TurnDownReason::None,
+        reason: None,
         count: 0,
     }
 }
 
 // The outcome, or the refusal of a bad image in BOOT.
-pub fn if_boot_good(g: Geometry, outcome: Outcome, boot: &[u8]) -> Outcome
+pub fn if_boot_good(g: Geometry, outcome: Outcome, boot: &[u8]) -> Result<Outcome, PowerUpRefusal>
     requires { Partition g boot.now }
-    ensures { outcome_of result ≡ if_boot_good (outcome_of outcome) (check_of g boot.now) }
+    ensures { outcome_of result ≡ if_boot_good (outcome_of (Ok outcome)) (check_of g boot.now) }
 {
-    match image::judge_partition(g, boot) {
-        ImageVerdict::Good(_) => outcome,
-        ImageVerdict::Bad(o) => Outcome::Refused(PowerUpRefusal::BadBoot(o)),
-    }
+    image::judge_partition(g, boot).map_err(PowerUpRefusal::BadBoot)?;
+    Ok(outcome)
 }
 
 // The outcome of a job that is done.
 fn done_outcome(job: Job) -> Outcome
-    ensures { outcome_of result ≡ done_outcome job }
+    ensures { outcome_of (Ok result) ≡ done_outcome job }
 {
     match job {
         Job::Update => Outcome::RunOnTest,
@@ -77,18 +73,24 @@ fn done_outcome(job: Job) -> Outcome
 }
 
 // The outcome of a job whose steps have come this far: "cut" where one more is ordered.
-pub fn outcome_at(g: Geometry, job: Job, at: Progress, boot: &[u8], update: &[u8]) -> Outcome
+pub fn outcome_at(
+    g: Geometry,
+    job: Job,
+    at: Progress,
+    boot: &[u8],
+    update: &[u8],
+) -> Result<Outcome, PowerUpRefusal>
     requires { (Partition g boot.now) × (Partition g update.now) × (at.front.0 ≤ firmware g) }
     ensures { outcome_of result
         ≡ outcome_by (next_at job g at boot.now update.now) job (check_of g boot.now) }
 {
     match exchange_front::find_next(g, job, at, boot, update) {
-        Next::Do(_) => Outcome::Cut,
-        Next::Nothing => if_boot_good(g, done_outcome(job), boot),
+        Some(_) => Ok(Outcome::Cut),
+        None => if_boot_good(g, done_outcome(job), boot),
     }
 }
 
-fn do_job(f: &mut FlashMut, job: Job, reason: TurnDownReason, budget: u64) -> PowerUpAnswer
+fn do_job(f: &mut FlashMut, job: Job, reason: Option<TurnDownReason>, budget: u64) -> PowerUpAnswer
     requires { (Shaped f.old.geometry (bytes f.old)) × (WellFormed f.old.geometry f.old.update.now) }
     ensures same { SameFlash f.old f.new }
     ensures answer { answered result (bytes f.new)
@@ -106,7 +108,7 @@ fn do_job(f: &mut FlashMut, job: Job, reason: TurnDownReason, budget: u64) -> Po
 }
 
 // What was decided, done.
-fn carry_out(f: &mut FlashMut, plan: Plan, budget: u64) -> PowerUpAnswer
+fn carry_out(f: &mut FlashMut, plan: Result<Plan, PowerUpRefusal>, budget: u64) -> PowerUpAnswer
     requires { (Shaped f.old.geometry (bytes f.old))
         × (plan_of plan ≡ decide_within check_of f.old.geometry f.old.boot.now f.old.update.now) }
     ensures same { SameFlash f.old f.new }
@@ -114,12 +116,12 @@ fn carry_out(f: &mut FlashMut, plan: Plan, budget: u64) -> PowerUpAnswer
         ≡ carry_out check_of f.old.geometry (bytes f.old) budget (plan_of plan) }
 {
     match plan {
-        Plan::Refuse(refusal) => idle(Outcome::Refused(refusal)),
-        Plan::Plain => {
+        Err(refusal) => idle(Err(refusal)),
+        Ok(Plan::Plain) => {
             let boot = &mut *f.boot;
             idle(if_boot_good(f.geometry, Outcome::Run, boot))
         }
-        Plan::Work(job, reason) => do_job(f, job, reason, budget),
+        Ok(Plan::Work(job, reason)) => do_job(f, job, reason, budget),
     }
 }
 
@@ -135,17 +137,15 @@ pub fn power_up(
     ensures { Delivers sectors size (flash boot.old update.old swap.old) budget
         result (flash boot.new update.new swap.new) }
 {
-    match flash::check_flash(sectors, size, boot, update, swap) {
-        GeometryAnswer::Fits(geometry) => {
-            let plan = power_up_decision::decide(geometry, boot, update);
-            let mut f = FlashMut {
-                geometry,
-                boot,
-                update,
-                swap,
-            };
-            carry_out(&mut f, plan, budget)
-        }
-        GeometryAnswer::Outside => idle(Outcome::Refused(PowerUpRefusal::OutsideRules)),
-    }
+    let Some(geometry) = flash::check_flash(sectors, size, boot, update, swap) else {
+        return idle(Err(PowerUpRefusal::OutsideRules));
+    };
+    let plan = power_up_decision::decide(geometry, boot, update);
+    let mut f = FlashMut {
+        geometry,
+        boot,
+        update,
+        swap,
+    };
+    carry_out(&mut f, plan, budget)
 }

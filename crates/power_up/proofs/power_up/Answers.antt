@@ -12,24 +12,23 @@ use Rattle.power_up.proofs.power_up.Goals as goal
 
 pub decide-plan-requires : goal.decide-plan-requires
 decide-plan-requires c =
-    let S = flash_given_lem _ _ _ _ (rw c.in-Fits.is at c.check_flash.ensures) in (boot_partition _ _ S, update_partition _ _ S)
+    let S = flash_given_lem _ _ _ _ c.in-Some.ensures in (boot_partition _ _ S, update_partition _ _ S)
 
 pub carry_out-requires : goal.carry_out-requires
-carry_out-requires c = (flash_given_lem _ _ _ _ (rw c.in-Fits.is at c.check_flash.ensures), c.decide-plan.ensures)
+carry_out-requires c = (flash_given_lem _ _ _ _ c.in-Some.ensures, c.decide-plan.ensures)
 
-pub returns-in-Fits : goal.returns-in-Fits
-returns-in-Fits c =
+pub returns : goal.returns
+returns c =
     let a = c.args in
     let d = c.decide-plan in
     let o = c.carry_out in
     let k = o.ensures.same in
     ap (λ (f : Flash). answered o.result f) (given_back o.new.f (search (rules, k)) (search (rules, k)) (search (rules, k)))
     ∙ o.ensures.answer
-    ∙ power_up_inside a.sectors a.size (flash a.boot.now a.update.now a.swap.now) _ (rw c.in-Fits.is at c.check_flash.ensures) check_of
-    a.budget (plan_of d.result) d.ensures
+    ∙ power_up_inside a.sectors a.size (flash a.boot.now a.update.now a.swap.now) _ c.in-Some.ensures check_of a.budget (plan_of d.result) d.ensures
 
-pub returns-in-Outside : goal.returns-in-Outside
-returns-in-Outside c =
+pub returns-in_default : goal.returns-in_default
+returns-in_default c =
     let a = c.args in
     rw c.idle.ensures
-    (power_up_outside a.sectors a.size (flash a.boot.now a.update.now a.swap.now) (rw c.in-Outside.is at c.check_flash.ensures) check_of a.budget)
+    (power_up_outside a.sectors a.size (flash a.boot.now a.update.now a.swap.now) c.in_default.ensures check_of a.budget)
