@@ -49,11 +49,12 @@ fn refused_with(r: RefusedInside) -> Ended
     Ended {
         outcome: Ended::REFUSED,
         number: r.number,
-        inner: r.inner as u64,
+        inner: u64::from(r.inner),
         place: r.place as u64,
     }
 }
 
+// The outcome, or the refusal.
 pub fn of_outcome(outcome: Result<Outcome, PowerUpRefusal>) -> Ended
     ensures { result ≡ ended_of (outcome_of outcome) }
 {
@@ -62,19 +63,21 @@ pub fn of_outcome(outcome: Result<Outcome, PowerUpRefusal>) -> Ended
         Ok(Outcome::Run) => end(Ended::RUN),
         Ok(Outcome::RunOnTest) => end(Ended::RUN_ON_TEST),
         Ok(Outcome::RunFallenBack) => end(Ended::RUN_FALLEN_BACK),
-        Err(refusal) => refused_with(refusal.into()),
+        Err(refusal) => refused_with(RefusedInside::from(refusal)),
     }
 }
 
+// The refusal's number, 0 where the command was done.
 pub fn of_command(answer: Result<u64, CommandRefusal>) -> u32
     ensures { result ≡ (refusal_of (command_of answer)).number }
 {
     match answer {
         Ok(_) => 0,
-        Err(refusal) => refusal.into(),
+        Err(refusal) => u32::from(refusal),
     }
 }
 
+// The number of operations, 0 beside a refusal.
 pub fn count_of(answer: Result<u64, CommandRefusal>) -> u64
     ensures { result ≡ count_of (command_of answer) }
 {
