@@ -8,37 +8,37 @@ ghost use Rattle.counts_power_up.specs.Delivered.{counted_outcome_of};
 ghost use Rattle.counts_arm.specs.Delivered.{counted_command_of};
 
 use c_power_up::Ended;
-use counts_arm::CountedCommand;
-use counts_power_up::CountedOutcome;
+use counts_arm::CountedArmRefusal;
+use counts_power_up::CountedRefusal;
+use power_up::Outcome;
 
-pub fn of_counted(o: CountedOutcome) -> Ended
-    ensures { result ≡ ended_of (counted_outcome_of o) }
+pub fn of_counted(outcome: Result<Outcome, CountedRefusal>) -> Ended
+    ensures { result ≡ ended_of (counted_outcome_of outcome) }
 {
-    match o {
-        CountedOutcome::PowerUp(p) => c_power_up::of_outcome(p),
-        CountedOutcome::Counts(r) => Ended {
+    match outcome {
+        Ok(o) => c_power_up::of_outcome(Ok(o)),
+        Err(CountedRefusal::PowerUp(refusal)) => c_power_up::of_outcome(Err(refusal)),
+        Err(CountedRefusal::Counts(refusal)) => Ended {
             outcome: Ended::REFUSED,
-            number: numbers::of_row(r),
+            number: refusal.into(),
             inner: 0,
             place: 0,
         },
     }
 }
 
-pub fn of_command(a: CountedCommand) -> u32
-    ensures { result ≡ (refusal_of (counted_command_of a)).number }
+pub fn of_command(answer: Result<u64, CountedArmRefusal>) -> u32
+    ensures { result ≡ (refusal_of (counted_command_of answer)).number }
 {
-    match a {
-        CountedCommand::Arm(c) => c_power_up::of_command(c),
-        CountedCommand::Counts(r) => numbers::of_row(r),
+    match answer {
+        Ok(_) => 0,
+        Err(CountedArmRefusal::Arm(refusal)) => refusal.into(),
+        Err(CountedArmRefusal::Counts(refusal)) => refusal.into(),
     }
 }
 
-pub fn count_of(a: CountedCommand) -> u64
-    ensures { result ≡ count_of (counted_command_of a) }
+pub fn count_of(answer: Result<u64, CountedArmRefusal>) -> u64
+    ensures { result ≡ count_of (counted_command_of answer) }
 {
-    match a {
-        CountedCommand::Arm(c) => c_power_up::count_of(c),
-        CountedCommand::Counts(_) => 0,
-    }
+    answer.unwrap_or(0)
 }

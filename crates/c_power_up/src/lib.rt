@@ -7,8 +7,7 @@ ghost use Rattle.exchange_commands.specs.Numbers.{command_of};
 ghost use Rattle.power_up.specs.Delivered.{outcome_of};
 ghost use Rattle.c_power_up.specs.Outcomes.{ended, ended_refused, ended_of};
 
-use exchange_commands::CommandAnswer;
-use numbers::RefusedInside;
+use numbers::{CommandRefusal, PowerUpRefusal, RefusedInside};
 use power_up::Outcome;
 
 // How a power-up ended: its outcome, and of a refusal the number, and the own number and place of a bad image within it.
@@ -50,37 +49,37 @@ fn refused_with(r: RefusedInside) -> Ended
     Ended {
         outcome: Ended::REFUSED,
         number: r.number,
-        inner: r.inner as u64,
+        inner: u64::from(r.inner),
         place: r.place as u64,
     }
 }
 
-pub fn of_outcome(o: Outcome) -> Ended
-    ensures { result ≡ ended_of (outcome_of o) }
+// The outcome, or the refusal.
+pub fn of_outcome(outcome: Result<Outcome, PowerUpRefusal>) -> Ended
+    ensures { result ≡ ended_of (outcome_of outcome) }
 {
-    match o {
-        Outcome::Refused(r) => refused_with(numbers::of_power_up(r)),
-        Outcome::Cut => end(Ended::CUT),
-        Outcome::Run => end(Ended::RUN),
-        Outcome::RunOnTest => end(Ended::RUN_ON_TEST),
-        Outcome::RunFallenBack => end(Ended::RUN_FALLEN_BACK),
+    match outcome {
+        Ok(Outcome::Cut) => end(Ended::CUT),
+        Ok(Outcome::Run) => end(Ended::RUN),
+        Ok(Outcome::RunOnTest) => end(Ended::RUN_ON_TEST),
+        Ok(Outcome::RunFallenBack) => end(Ended::RUN_FALLEN_BACK),
+        Err(refusal) => refused_with(RefusedInside::from(refusal)),
     }
 }
 
-pub fn of_command(a: CommandAnswer) -> u32
-    ensures { result ≡ (refusal_of (command_of a)).number }
+// The refusal's number, 0 where the command was done.
+pub fn of_command(answer: Result<u64, CommandRefusal>) -> u32
+    ensures { result ≡ (refusal_of (command_of answer)).number }
 {
-    match a {
-        CommandAnswer::Done(_) => 0,
-        CommandAnswer::Refused(r) => numbers::of_command(r),
+    match answer {
+        Ok(_) => 0,
+        Err(refusal) => u32::from(refusal),
     }
 }
 
-pub fn count_of(a: CommandAnswer) -> u64
-    ensures { result ≡ count_of (command_of a) }
+// The number of operations, 0 beside a refusal.
+pub fn count_of(answer: Result<u64, CommandRefusal>) -> u64
+    ensures { result ≡ count_of (command_of answer) }
 {
-    match a {
-        CommandAnswer::Done(n) => n,
-        CommandAnswer::Refused(_) => 0,
-    }
+    answer.unwrap_or(0)
 }

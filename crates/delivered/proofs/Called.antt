@@ -4,9 +4,10 @@ use mathlib.Core.Bool.{true, false}
 use mathlib.Core.Logic.{◌⊎◌, inl, inr}
 use mathlib.Core.List.{List, [], ◌∷◌}
 use Prim.Native.Nat.{ℕ}
+use Rattle.std.specs.Prelude.{None, Result, Ok, Err}
 use Rattle.numbers.specs.Answer.{numbered, no_reason}
+use Rattle.numbers.specs.declared.PowerUpRefusal.{PowerUpRefusal}
 use Rattle.numbers.specs.declared.PowerUpRefusal.TheVariants.{OutsideRules}
-use Rattle.numbers.specs.declared.TurnDownReason.TheVariants.{None}
 use Rattle.flash.specs.declared.Geometry.{Geometry}
 use Rattle.flash.specs.Buffers.{Flash, fits}
 use Rattle.exchange.specs.PowerUp as rules
@@ -17,7 +18,7 @@ use Rattle.exchange.proofs.Seen.{at}
 use Rattle.exchange.proofs.Whole.{demand_3_ongoing}
 use Rattle.image.specs.Verdict.{check_of}
 use Rattle.power_up.specs.declared.Outcome.{Outcome}
-use Rattle.power_up.specs.declared.Outcome.TheVariants.{Refused, Cut, Run, RunOnTest, RunFallenBack}
+use Rattle.power_up.specs.declared.Outcome.TheVariants.{Cut, Run, RunOnTest, RunFallenBack}
 use Rattle.power_up.specs.Delivered.{outcome_of, Delivers}
 use Rattle.delivered.specs.Demand.{Gave, CallEvent, kept_power, cut_off, Happens, seen}
 use Rattle.delivered.specs.Witness.{ruled, Called, EveryListCalled}
@@ -25,12 +26,12 @@ use Rattle.delivered.proofs.Delivered.{reads_firmware, happened}
 
 -- ---- an answer of the code for what the rules have, where they refuse with 1 alone and have no reason
 
-abbrev pub coded : rules.Outcome → Outcome
-coded (refusal r) = Refused OutsideRules
-coded cut = Cut
-coded runs = Run
-coded runs_on_test = RunOnTest
-coded runs_fallen_back = RunFallenBack
+abbrev pub coded : rules.Outcome → Result Outcome PowerUpRefusal
+coded (refusal r) = Err OutsideRules
+coded cut = Ok Cut
+coded runs = Ok Run
+coded runs_on_test = Ok RunOnTest
+coded runs_fallen_back = Ok RunFallenBack
 
 abbrev pub gave : PowerUp → Gave
 gave p = record { answer = record { outcome = coded p.outcome; reason = None; count = p.count }; flash = p.flash }

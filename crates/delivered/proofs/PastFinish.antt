@@ -1,7 +1,7 @@
 -- The list past the finish: an update of 21 operations, and a fallback of 19 more.
 use mathlib.Core.Path.{◌≡◌, ap, ap₂, ◌∙◌}
 use mathlib.Core.List.{List, [], ◌∷◌}
-use mathlib.Core.Option.{none}
+use Rattle.std.specs.Prelude.{None}
 use Prim.Native.Nat.{ℕ, ◌+◌}
 use native.Mathlib.Omega.{arith}
 use lib.ListN.{get_or}
@@ -31,7 +31,7 @@ cut_of f b l h = ap is_cut h.outcome
 
 module _ (f : Flash) (r : UpdateReady check_of f) where
   -- the cases 2 and 5, of budgets 21 and 100
-  after_update : LeavesAs check_of f (21 ∷ []) (leaves (21 ∷ []) runs_on_test none Testing New)
+  after_update : LeavesAs check_of f (21 ∷ []) (leaves (21 ∷ []) runs_on_test None Testing New)
   after_update = (marked_exchange check_of (reads_firmware three)).1.1.1.1.1.1.1.0 f r
 
   abbrev f₁ : Flash
@@ -66,7 +66,7 @@ module _ (f : Flash) (r : UpdateReady check_of f) where
         check_same check_of three (reads_firmware three) f₁.update f.boot s₁.update s.boot (λ i h. (finished.exchanged i h).update_holds) ∙ r.boot_good;
   }
 
-  after_fallback : LeavesAs check_of f₁ (100 ∷ []) (leaves (19 ∷ []) runs_fallen_back none Success New)
+  after_fallback : LeavesAs check_of f₁ (100 ∷ []) (leaves (19 ∷ []) runs_fallen_back None Success New)
   after_fallback = (marked_exchange check_of (reads_firmware three)).1.1.1.1.1.1.1.1.1.1.1.0 f₁ ready
 
   pub all_done : completed (left check_of) f once_more ≡ 40
@@ -95,10 +95,10 @@ last_of f b c l h = ap is_cut h.outcome
 
 module _ (f : Flash) (r : UpdateReady check_of f) where
   -- case 3: a budget of 5, and then 100
-  first_cut : LeavesAs check_of f (5 ∷ []) (leaves (5 ∷ []) cut none Success Updating)
+  first_cut : LeavesAs check_of f (5 ∷ []) (leaves (5 ∷ []) cut None Success Updating)
   first_cut = (marked_exchange check_of (reads_firmware three)).1.1.1.1.1.1.1.1.0 f r
 
-  both : LeavesAs check_of f (5 ∷ 100 ∷ []) (leaves (5 ∷ 18 ∷ []) runs_on_test none Testing New)
+  both : LeavesAs check_of f (5 ∷ 100 ∷ []) (leaves (5 ∷ 18 ∷ []) runs_on_test None Testing New)
   both = (marked_exchange check_of (reads_firmware three)).1.1.1.1.1.1.1.1.1.0 f r
 
   done_23 : completed (left check_of) f five_then_all ≡ 23

@@ -3,6 +3,7 @@ use mathlib.Core.Path.{◌≡◌, refl, sym, ap, ◌∙◌, subst}
 use Prim.Native.Nat.{ℕ, ◌+◌, ◌*◌, ◌≤◌}
 use native.Mathlib.Omega.{arith}
 use lib.ListN.{length, length-map, get_or-replicate}
+use Rattle.std.specs.Prelude.{sum}
 use Rattle.flash.specs.Sizes.{firmware}
 use Rattle.flash.specs.Buffers.{Flash}
 use Rattle.exchange.specs.LostPower.{Torn}
@@ -19,7 +20,6 @@ use Rattle.delivered.proofs.Delivered.{reads_firmware}
 use Rattle.delivered.proofs.Called.{Goes, goes_on, every_list_called}
 use Rattle.delivered.proofs.PastFinish.{all_done, none_early}
 use Rattle.delivered.proofs.Started.{witnesses}
-use Rattle.counts.specs.Row.{sum}
 use Rattle.delivered_counts.specs.Demand.{Found, found_after, AllowedCounted, erases_since, RowKept}
 use Rattle.delivered_counts.specs.Witness as ofCounts
 use Rattle.delivered_counts.specs.Witness.{CountedCalled, RoomFor, fresh}

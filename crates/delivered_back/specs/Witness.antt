@@ -1,6 +1,6 @@
 -- There and back is not empty: the calls are there for every list that the rules allow; and from version 8, armed over version 7, two halves
 -- with a refused power-up and a loss of power in each.
-use Rattle.std.specs.Prelude.{◌≡◌, List, ◌++◌, map, ℕ, ◌≤◌, length}
+use Rattle.std.specs.Prelude.{◌≡◌, List, ◌++◌, map, ℕ, ◌≤◌, length, sum}
 use Rattle.flash.specs.declared.Geometry.{Geometry}
 use Rattle.flash.specs.Buffers.{Flash}
 use Rattle.exchange.specs.LostPower.{Torn}
@@ -13,7 +13,7 @@ use Rattle.there_and_back.specs.Journey.{GivenBack, most_there_and_back, Allowed
 use Rattle.delivered.specs.Demand.{CallEvent, seen}
 use Rattle.delivered.specs.Witness.{armed, ruled, Called}
 use Rattle.delivered.specs.PastFinish.{once_more}
-use Rattle.counts.specs.Row.{row_length, sum}
+use Rattle.counts.specs.Row.{row_length}
 use Rattle.delivered_counts.specs.Demand.{CountedEvent, Found, found_after}
 use Rattle.delivered_counts.specs.Witness as ofCounts
 use Rattle.delivered_counts.specs.Witness.{CountedCalled, RoomFor, fresh}

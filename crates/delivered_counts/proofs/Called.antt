@@ -7,7 +7,10 @@ use Prim.Native.Nat.{ℕ, suc, ◌≤◌, ◌<◌}
 use native.Mathlib.Omega.{arith}
 use native.Mathlib.Nat.{mul-suc}
 use lib.ListN.{length, get_or-replicate}
+use Rattle.std.specs.Prelude.{Result, Ok, Err, sum}
+use Rattle.numbers.specs.declared.PowerUpRefusal.{PowerUpRefusal}
 use Rattle.numbers.specs.Answer.{numbered, number_of}
+use Rattle.numbers.specs.GivenBack.{reason_of}
 use Rattle.numbers.specs.declared.PowerUpRefusal.TheVariants.{OutsideRules, StatusNotAllowed, FlagsMalformed, BadBoot, NoFallback}
 use Rattle.flash.specs.declared.Geometry.{Geometry}
 use Rattle.flash.specs.Sizes.{firmware}
@@ -23,16 +26,18 @@ use Rattle.exchange.proofs.Whole.{starts_ongoing}
 use Rattle.exchange.proofs.Reached.{finish_reached}
 use Rattle.image.specs.Verdict.{check_of}
 use Rattle.power_up.specs.declared.Outcome.{Outcome}
-use Rattle.power_up.specs.declared.Outcome.TheVariants.{Refused, Cut, Run, RunOnTest, RunFallenBack}
+use Rattle.power_up.specs.declared.Outcome.TheVariants.{Cut, Run, RunOnTest, RunFallenBack}
 use Rattle.power_up.specs.Delivered.{outcome_of}
 use Rattle.delivered.specs.Witness.{armed, on_test}
 use Rattle.delivered.proofs.Delivered.{reads_firmware}
 use Rattle.delivered.proofs.Called.{gave, ToldOn, gives_it, Goes, goes_on, told_going}
 use Rattle.delivered.proofs.Started.{witnesses}
-use Rattle.counts.specs.Row.{row_length, sum}
+use Rattle.counts.specs.Row.{row_length}
 use Rattle.counts.specs.Calls.{counted_power_up}
 use Rattle.counts.specs.Claims.{RoomForM}
-use Rattle.counts_power_up.specs.declared.CountedOutcome.TheVariants.{PowerUp as Own}
+use Rattle.counts_power_up.specs.declared.CountedRefusal.{CountedRefusal}
+use Rattle.counts_power_up.specs.declared.CountedRefusal.TheVariants.{PowerUp as Own}
+use Rattle.counts_power_up.specs.Delivered.{counted_outcome_of}
 use Rattle.delivered_counts.specs.Demand.{CountedGave, Handed, CountedEvent, kept_power, cut_off, Gives, Found, found_after, HandedOn}
 use Rattle.delivered_counts.specs.Witness.{ruled, CountedCalled, RoomFor, EveryListCounted, fresh, CountedWitness, CountedWitnesses}
 use Rattle.delivered_counts.proofs.OneCall.{own_is}
@@ -47,19 +52,28 @@ number_in runs = 0
 number_in runs_on_test = 0
 number_in runs_fallen_back = 0
 
-own_numbers : (o : Outcome) → number_in (outcome_of o) ≤ 13
-own_numbers (Refused OutsideRules) = omega arith
-own_numbers (Refused StatusNotAllowed) = omega arith
-own_numbers (Refused FlagsMalformed) = omega arith
-own_numbers (Refused (BadBoot i)) = omega arith
-own_numbers (Refused (NoFallback i)) = omega arith
-own_numbers Cut = omega arith
-own_numbers Run = omega arith
-own_numbers RunOnTest = omega arith
-own_numbers RunFallenBack = omega arith
+own_numbers : (o : Result Outcome PowerUpRefusal) → number_in (outcome_of o) ≤ 13
+own_numbers (Err OutsideRules) = omega arith
+own_numbers (Err StatusNotAllowed) = omega arith
+own_numbers (Err FlagsMalformed) = omega arith
+own_numbers (Err (BadBoot i)) = omega arith
+own_numbers (Err (NoFallback i)) = omega arith
+own_numbers (Ok Cut) = omega arith
+own_numbers (Ok Run) = omega arith
+own_numbers (Ok RunOnTest) = omega arith
+own_numbers (Ok RunFallenBack) = omega arith
 
-not_own : (o : Outcome) (n : ℕ) → 13 < n → outcome_of o ≢ refusal (numbered n 0)
-not_own o n h e = let z : number_in (outcome_of o) ≡ n = ap number_in e in omega (arith, own_numbers o)
+-- power-up's own answer, as a counted one
+abbrev owned : Result Outcome PowerUpRefusal → Result Outcome CountedRefusal
+owned (Ok o) = Ok o
+owned (Err r) = Err (Own r)
+
+owned_is : (o : Result Outcome PowerUpRefusal) → counted_outcome_of (owned o) ≡ outcome_of o
+owned_is (Ok o) = refl
+owned_is (Err r) = refl
+
+not_own : (o : Result Outcome PowerUpRefusal) (n : ℕ) → 13 < n → counted_outcome_of (owned o) ≢ refusal (numbered n 0)
+not_own o n h e = let z : number_in (outcome_of o) ≡ n = ap number_in (sym (owned_is o) ∙ e) in omega (arith, own_numbers o)
 
 -- ---- each call
 
@@ -77,7 +91,7 @@ gives_back s g' budget =
     let p = gave (power_up check_of g' s.flash budget) in
     let c = counted_power_up check_of g' s.flash budget s.row s.total in
     record {
-      answer = record { outcome = Own p.answer.outcome; reason = p.answer.reason; count = p.answer.count; total = c.total };
+      answer = record { outcome = owned p.answer.outcome; reason = p.answer.reason; count = p.answer.count; total = c.total };
       flash = p.flash;
       row = c.row;
     }
@@ -87,9 +101,11 @@ module _ (g : Geometry) (s : Found) (fit : fits g s.flash ≡ true) (told : Told
   gives g' budget =
       let c = counted_power_up check_of g' s.flash budget s.row s.total in
       let r = gives_back s g' budget in
-      let e = gives_it s.flash told g' budget ∙ sym (own_is g g' s.flash budget s.row s.total fit q.long (sym q.summed) q.room) in
+      let p = gave (power_up check_of g' s.flash budget) in
       record {
-        delivers = ap (λ (p : PowerUp). record { own = p; row = c.row; total = c.total }) e;
+        delivers = ap (λ (x : PowerUp). record { own = x; row = c.row; total = c.total })
+            (ap (λ (o : rules.Outcome). record { outcome = o; reason = reason_of p.answer.reason; count = p.answer.count; flash = p.flash }) (owned_is p.answer.outcome)
+            ∙ gives_it s.flash told g' budget ∙ sym (own_is g g' s.flash budget s.row s.total fit q.long (sym q.summed) q.room));
         not19 = not_own (gave (power_up check_of g' s.flash budget)).answer.outcome 19 (omega arith);
         not20 = not_own (gave (power_up check_of g' s.flash budget)).answer.outcome 20 (omega arith);
       }

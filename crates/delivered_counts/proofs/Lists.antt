@@ -6,6 +6,7 @@ use Prim.Native.Nat.{ℕ, ◌+◌, ◌*◌, ◌≤◌, ◌<◌}
 use native.Mathlib.Omega.{arith}
 use native.Mathlib.Nat.{mul-suc}
 use lib.ListN.{length, get_or}
+use Rattle.std.specs.Prelude.{sum}
 use Rattle.flash.specs.declared.Geometry.{Geometry}
 use Rattle.flash.specs.Sizes.{firmware}
 use Rattle.flash.specs.Buffers.{Flash, fits}
@@ -19,7 +20,7 @@ use Rattle.exchange.proofs.Whole.{demand_3_ongoing, starts_ongoing}
 use Rattle.image.specs.Verdict.{check_of}
 use Rattle.delivered.proofs.Delivered.{reads_firmware}
 use Rattle.delivered.proofs.Called.{Goes, goes_on}
-use Rattle.counts.specs.Row.{row_length, sum}
+use Rattle.counts.specs.Row.{row_length}
 use Rattle.counts.specs.Claims.{erases_at}
 use Rattle.delivered_counts.specs.Demand.{CountedEvent, kept_power, cut_off, asked_geometry, with_budget, counted_seen, row_left, total_left, Found, found_after, HandedOn, completed_in, Completed, erases_since, RowKept, CountedDemand3, CountedDemand3Ongoing}
 use Rattle.delivered_counts.specs.Witness.{ruled}

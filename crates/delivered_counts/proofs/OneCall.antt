@@ -7,6 +7,9 @@ use native.Mathlib.Decide.{ℕ_discrete}
 use native.Mathlib.Omega.{arith}
 use lib.ListN.{length, get_or, length-take}
 use borrow.Author.Tests.{eq-eqb}
+use lib.Dec.{ltb}
+use Rattle.std.specs.List.{list_any}
+use Rattle.std.specs.Prelude.{sum}
 use Rattle.numbers.specs.Answer.{gives, refused, numbered}
 use Rattle.flash.specs.declared.Geometry.{Geometry}
 use Rattle.flash.specs.Sizes.{firmware}
@@ -19,7 +22,7 @@ use Rattle.exchange.proofs.Runs.{run_count, run_within}
 use Rattle.exchange.proofs.RuledOut.{ruled_out}
 use Rattle.exchange.proofs.Played.{outside_decided}
 use Rattle.image.specs.Verdict.{check_of}
-use Rattle.counts.specs.Row.{row_length, raised, sum, some_above}
+use Rattle.counts.specs.Row.{row_length, raised}
 use Rattle.counts.specs.Calls.{Counted, check_counted, counted_power_up}
 use Rattle.counts.specs.Claims.{erases_at, RoomForM, hands_back}
 use Rattle.counts.proofs.Rows.{length_raised, raised_place}
@@ -124,7 +127,7 @@ module _ (f : Flash) (h : Handed) (r : CountedGave) (k : Gives f h r) where
           l : length h.row ≡ row_length (asked_geometry h)
           l = long ∙ ap row_length (sym same)
 
-          room : (s : sum h.row ≡ h.total) (b : Bool) → some_above (4294967295 - firmware (asked_geometry h)) h.row ≡ b → IsPowerUp g f h r
+          room : (s : sum h.row ≡ h.total) (b : Bool) → list_any (ltb (4294967295 - firmware (asked_geometry h))) h.row ≡ b → IsPowerUp g f h r
           room s false q =
               fit_call g same
               (where_it_fits (asked_geometry h) f h.row h.total e ∙ rw (eq-eqb (length h.row) (row_length (asked_geometry h)) l, eq-eqb (sum h.row) h.total s, q) refl)
@@ -133,7 +136,7 @@ module _ (f : Flash) (h : Handed) (r : CountedGave) (k : Gives f h r) where
               (where_it_fits (asked_geometry h) f h.row h.total e ∙ rw (eq-eqb (length h.row) (row_length (asked_geometry h)) l, eq-eqb (sum h.row) h.total s, q) refl)))
 
           summed_right : Dec (sum h.row ≡ h.total) → IsPowerUp g f h r
-          summed_right (yes s) = room s (some_above (4294967295 - firmware (asked_geometry h)) h.row) refl
+          summed_right (yes s) = room s (list_any (ltb (4294967295 - firmware (asked_geometry h))) h.row) refl
           summed_right (no s) = absurd (k.not19 (told 19 (total_wrong_lem (asked_geometry h) f h.row h.total e l s)))
 
       by : (b : Bool) → fits (asked_geometry h) f ≡ b → IsPowerUp g f h r

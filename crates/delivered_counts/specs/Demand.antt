@@ -1,6 +1,6 @@
 -- Document 02, "Erase counts for the service sheet": demand 3 of the counted power-up. Its lists are made of calls of `power_up_counted` that gave what the contract says (`CountedDelivers`): of
 -- an answer, bytes and a row, as a caller gets them. Flash, row and total go from one call to the next.
-use Rattle.std.specs.Prelude.{◌≡◌, ◌≢◌, List, ℕ, ◌+◌, ◌≤◌, ◌<◌, length, get_or}
+use Rattle.std.specs.Prelude.{◌≡◌, ◌≢◌, List, ℕ, ◌+◌, ◌≤◌, ◌<◌, length, get_or, sum}
 use Rattle.numbers.specs.Answer.{numbered}
 use Rattle.flash.specs.declared.Geometry.{Geometry}
 use Rattle.flash.specs.Sizes.{geometry}
@@ -12,7 +12,7 @@ use Rattle.exchange.specs.LostPower.{Torn, tear_next}
 use Rattle.exchange.specs.Along.{state_after, Along, summed}
 use Rattle.exchange.specs.Demand.{Exchange, Finished, Starts, Ongoing, Left, left_untorn, left_lost, flash_left, flash_after, Safe}
 use Rattle.image.specs.Verdict.{check_of}
-use Rattle.counts.specs.Row.{row_length, sum}
+use Rattle.counts.specs.Row.{row_length}
 use Rattle.counts.specs.Claims.{erases_at}
 use Rattle.counts_power_up.specs.declared.CountedAnswer.{CountedAnswer}
 use Rattle.counts_power_up.specs.Delivered.{counted_outcome_of, own_part, CountedDelivers}

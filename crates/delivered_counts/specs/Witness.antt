@@ -1,6 +1,6 @@
 -- Document 02, "Erase counts for the service sheet": counted lists are there. For each list of power-ups that the rules allow there are counted calls, as long as the counts have room; and
 -- from the two starts of `delivered/Witness` a list with a refused power-up, a torn copy, an early end and the finish.
-use Rattle.std.specs.Prelude.{◌≡◌, List, map, ℕ, ◌+◌, ◌*◌, ◌≤◌, ◌<◌, length, get_or, replicate}
+use Rattle.std.specs.Prelude.{◌≡◌, List, map, ℕ, ◌+◌, ◌*◌, ◌≤◌, ◌<◌, length, get_or, replicate, sum}
 use Rattle.flash.specs.declared.Geometry.{Geometry}
 use Rattle.flash.specs.Sizes.{firmware}
 use Rattle.flash.specs.Buffers.{Flash}
@@ -11,7 +11,7 @@ use Rattle.exchange.specs.Cases.{three}
 use Rattle.exchange.specs.Reached.{rough_list}
 use Rattle.image.specs.Verdict.{check_of}
 use Rattle.delivered.specs.Witness.{armed, on_test}
-use Rattle.counts.specs.Row.{row_length, sum}
+use Rattle.counts.specs.Row.{row_length}
 use Rattle.delivered_counts.specs.Demand.{CountedEvent, kept_power, cut_off, asked_geometry, Found, found_after, AllowedCounted}
 
 -- A counted power-up as the rules have it: the same geometry, budget, loss of power and tear.

@@ -1,7 +1,7 @@
 -- Power-up by its first check, and the answer of a job.
 use mathlib.Core.Path.{◌≡◌, refl, ap}
 use Prim.Native.Nat.{ℕ, ◌-◌}
-use Rattle.std.specs.Prelude.{Option, Result, Ok, Err}
+use Rattle.std.specs.Prelude.{Option, Result}
 use Rattle.numbers.specs.declared.PowerUpRefusal.{PowerUpRefusal}
 use Rattle.numbers.specs.Answer.{gives, refused, numbered}
 use Rattle.flash.specs.declared.Geometry.{Geometry}
@@ -13,18 +13,13 @@ use Rattle.flash_flags.specs.SectorFlags.{flags_at}
 use Rattle.exchange.specs.Decision.{Check, Plan, decide_statuses, decide}
 use Rattle.exchange.specs.declared.Job.{Job}
 use Rattle.exchange.specs.Order.{Run, next_operation}
-use Rattle.exchange.specs.PowerUp as rules
-use Rattle.exchange.specs.PowerUp.{refusal, idle, if_boot_good, outcome_by, worked, carry_out, power_up}
+use Rattle.exchange.specs.PowerUp.{refusal, idle, outcome_by, worked, carry_out, power_up}
 use Rattle.exchange_front.specs.declared.Progress.{Progress}
 use Rattle.exchange_front.specs.Carried.{next_at, Current}
 use Rattle.exchange_front.proofs.Follows.{same_next}
 use Rattle.exchange_steps.specs.Inner.{ran}
 use Rattle.numbers.specs.declared.TurnDownReason.{TurnDownReason}
-use Rattle.numbers.specs.declared.ImageRefusal.{ImageRefusal}
-use Rattle.numbers.specs.declared.PowerUpRefusal.TheVariants.{BadBoot}
-use Rattle.numbers.specs.GivenBack.{power_up_says, reason_of}
-use Rattle.image.specs.declared.Release.{Release}
-use Rattle.power_up_decision.proofs.Mapped.{version_of, Wraps}
+use Rattle.numbers.specs.GivenBack.{reason_of}
 use Rattle.power_up.specs.declared.Outcome.{Outcome}
 use Rattle.power_up.specs.Delivered.{outcome_of, answered}
 
@@ -43,17 +38,6 @@ module _ (n s : ℕ) (f : Flash) (g : Geometry) (e : gives g ≡ flash_of n s f)
       → carry_out check g f budget plan ≡ power_up check (geometry n s) f budget
   unfolding power_up decide
   power_up_inside check budget x p = rw (flash_asked n s f g e) (rw (flash_fits n s f g e) (ap (carry_out check g f budget) p))
-
--- ---- the check of BOOT behind the work
-
-abbrev rests : rules.Outcome → Result Release PowerUpRefusal → rules.Outcome
-rests o (Ok x) = o
-rests o (Err e) = refusal (power_up_says e)
-
-pub tested : (o : rules.Outcome) (r : Result Release ImageRefusal) (s : Result Release PowerUpRefusal) → Wraps BadBoot r s → rests o s ≡ if_boot_good o (version_of r)
-tested o (Ok x) s h = rw h refl
-tested o (Err i) (Ok x) h = absurd h
-tested o (Err i) (Err e) h = ap (λ (q : PowerUpRefusal). refusal (power_up_says q)) h
 
 -- ---- a job is worked on
 

@@ -57,8 +57,10 @@ pub fn if_boot_good(g: Geometry, outcome: Outcome, boot: &[u8]) -> Result<Outcom
     requires { Partition g boot.now }
     ensures { outcome_of result ≡ if_boot_good (outcome_of (Ok outcome)) (check_of g boot.now) }
 {
-    image::judge_partition(g, boot).map_err(PowerUpRefusal::BadBoot)?;
-    Ok(outcome)
+    match image::judge_partition(g, boot) {
+        Ok(_) => Ok(outcome),
+        Err(refusal) => Err(PowerUpRefusal::BadBoot(refusal)),
+    }
 }
 
 // The outcome of a job that is done.

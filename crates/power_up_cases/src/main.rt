@@ -3,9 +3,8 @@
 #![tactic(auto)]
 
 use digest_sha256::Hasher;
-use exchange_commands::CommandAnswer;
 use header_reader::Header;
-use numbers::{RefusedInside, TurnDownReason};
+use numbers::{CommandRefusal, PowerUpRefusal, RefusedInside, TurnDownReason};
 use power_up::Outcome;
 use std::io;
 
@@ -61,9 +60,9 @@ fn digest_image(header: &[u8], code: &[u8]) -> [u8; 32] {
 fn partition_of(version: u8, status: u8) -> [u8; PARTITION] {
     let mut partition = [0xFFu8; PARTITION];
     let code = firmware(version);
-    header_writer::write_header(&mut partition, header_of(version, [0u8; 32]));
+    let _ = header_writer::write_header(&mut partition, header_of(version, [0u8; 32]));
     let digest = digest_image(&partition, &code);
-    header_writer::write_header(&mut partition, header_of(version, digest));
+    let _ = header_writer::write_header(&mut partition, header_of(version, digest));
     partition[256..256 + code.len()].copy_from_slice(&code);
     partition[767] = status;
     partition
@@ -81,17 +80,17 @@ fn print_refused(rt: &impl Print, r: RefusedInside) -> io::Result<()> {
     Ok(())
 }
 
-fn print_outcome(rt: &impl Print, o: Outcome) -> io::Result<()> {
-    match o {
-        Outcome::Refused(r) => print_refused(rt, numbers::of_power_up(r)),
-        Outcome::Cut => print(rt, "cut"),
-        Outcome::Run => print(rt, "run"),
-        Outcome::RunOnTest => print(rt, "run on test"),
-        Outcome::RunFallenBack => print(rt, "run, fallen back"),
+fn print_outcome(rt: &impl Print, outcome: Result<Outcome, PowerUpRefusal>) -> io::Result<()> {
+    match outcome {
+        Ok(Outcome::Cut) => print(rt, "cut"),
+        Ok(Outcome::Run) => print(rt, "run"),
+        Ok(Outcome::RunOnTest) => print(rt, "run on test"),
+        Ok(Outcome::RunFallenBack) => print(rt, "run, fallen back"),
+        Err(refusal) => print_refused(rt, refusal.into()),
     }
 }
 
-fn print_reason(rt: &impl Print, r: TurnDownReason) -> io::Result<()> {
+fn print_reason(rt: &impl Print, r: Option<TurnDownReason>) -> io::Result<()> {
     let why = numbers::of_reason(r);
     if why.number != 0 {
         print_number(rt, ", turned down with ", why.number as u64)?;
@@ -102,9 +101,9 @@ fn print_reason(rt: &impl Print, r: TurnDownReason) -> io::Result<()> {
 
 fn print_answer(
     rt: &impl Print,
-    outcome: Outcome,
+    outcome: Result<Outcome, PowerUpRefusal>,
     count: u64,
-    reason: TurnDownReason,
+    reason: Option<TurnDownReason>,
 ) -> io::Result<()> {
     print_outcome(rt, outcome)?;
     print_number(rt, " with ", count)?;
@@ -158,9 +157,7 @@ fn power(
     print_number(rt, "", budget)?;
     print(rt, " ")?;
     let x = power_up::power_up(SECTORS, SIZE, boot, update, swap, budget);
-    let outcome = x.outcome;
-    let reason = x.reason;
-    print_answer(rt, outcome, x.count, reason)
+    print_answer(rt, x.outcome, x.count, x.reason)
 }
 
 // Two power-ups, one after the other.
@@ -349,10 +346,10 @@ fn fallbacks(rt: &impl Print) -> io::Result<()> {
     fallback(rt, "fallback, flag byte 7F", 767, 0x10, 766, 0x7F)
 }
 
-fn print_command(rt: &impl Print, answer: CommandAnswer) -> io::Result<()> {
+fn print_command(rt: &impl Print, answer: Result<u64, CommandRefusal>) -> io::Result<()> {
     match answer {
-        CommandAnswer::Done(n) => print_number(rt, "done with ", n),
-        CommandAnswer::Refused(r) => print_number(rt, "refused ", numbers::of_command(r) as u64),
+        Ok(n) => print_number(rt, "done with ", n),
+        Err(refusal) => print_number(rt, "refused ", u64::from(u32::from(refusal))),
     }
 }
 

@@ -1,3 +1,3 @@
--- The laws that the proofs of this crate cite, and those above it.
--- An image check's error, wrapped in a power-up's
-pub mod Mapped
+-- The laws that the proofs of this crate cite.
+-- The image check of BOOT, its error wrapped in a power-up's
+mod Mapped

@@ -8,32 +8,21 @@ use Rattle.std.specs.Result.{MatchResult, IsErrAnd}
 use Rattle.numbers.specs.Answer.{Answer, gives, then, no_reason, because}
 use Rattle.numbers.specs.declared.ImageRefusal.{ImageRefusal}
 use Rattle.numbers.specs.declared.PowerUpRefusal.{PowerUpRefusal}
-use Rattle.numbers.specs.declared.PowerUpRefusal.TheVariants.{BadBoot, NoFallback}
+use Rattle.numbers.specs.declared.PowerUpRefusal.TheVariants.{BadBoot}
 use Rattle.numbers.specs.GivenBack.{image_answer, power_up_says}
-use Rattle.exchange.specs.declared.Job.TheVariants.{Update, Fallback, TurnDown}
-use Rattle.exchange.specs.Decision.{Plan, refuse, work, accept, accept_fallback}
+use Rattle.exchange.specs.declared.Job.TheVariants.{Update, TurnDown}
+use Rattle.exchange.specs.Decision.{Plan, refuse, work, accept}
 use Rattle.image.specs.declared.Release.{Release}
 
 -- the version, as the rules take it
-abbrev pub version_of : Result Release ImageRefusal → Answer ℕ
+abbrev version_of : Result Release ImageRefusal → Answer ℕ
 version_of r = then (image_answer r) (λ x. gives x.version)
 
 -- what `map_err` says
-abbrev pub Wraps : (ImageRefusal → PowerUpRefusal) → Result Release ImageRefusal → Result Release PowerUpRefusal → Type 0
+abbrev Wraps : (ImageRefusal → PowerUpRefusal) → Result Release ImageRefusal → Result Release PowerUpRefusal → Type 0
 Wraps wrap r s = MatchResult r (λ x. s ≡ Ok x) (λ i. IsErrAnd s (λ e. e ≡ wrap i))
 
--- ---- a fallback
-
-abbrev falls : Result Release PowerUpRefusal → Plan
-falls (Ok x) = work Fallback no_reason
-falls (Err e) = refuse (power_up_says e)
-
-pub fallen : (r : Result Release ImageRefusal) (s : Result Release PowerUpRefusal) → Wraps NoFallback r s → falls s ≡ accept_fallback (version_of r)
-fallen (Ok x) s h = rw h refl
-fallen (Err i) (Ok x) h = absurd h
-fallen (Err i) (Err e) h = ap (λ (q : PowerUpRefusal). refuse (power_up_says q)) h
-
--- ---- an update to version v
+-- an update to version v
 
 abbrev goes : ℕ → Result Release PowerUpRefusal → Plan
 goes v (Ok x) = cond (ltb x.version v) (work Update no_reason) (work TurnDown (because 15 0))

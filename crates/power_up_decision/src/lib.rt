@@ -45,8 +45,10 @@ fn accept_fallback(g: Geometry, update: &[u8]) -> Result<Plan, PowerUpRefusal>
     requires { Partition g update.now }
     ensures { plan_of result ≡ accept_fallback (check_of g update.now) }
 {
-    image::judge_partition(g, update).map_err(PowerUpRefusal::NoFallback)?;
-    Ok(Plan::Work(Job::Fallback, None))
+    match image::judge_partition(g, update) {
+        Ok(_) => Ok(Plan::Work(Job::Fallback, None)),
+        Err(refusal) => Err(PowerUpRefusal::NoFallback(refusal)),
+    }
 }
 
 // Only with all flags F are images checked: an exchange that has begun goes on.
