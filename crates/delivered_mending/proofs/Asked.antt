@@ -12,7 +12,7 @@ use Rattle.numbers.specs.declared.MendRefusal.{MendRefusal}
 use Rattle.numbers.specs.declared.MendRefusal.TheVariants.{OutsideRules, StatusNotAllowed, WrongTime, NoMarkFits}
 use Rattle.flash.specs.declared.Geometry.{Geometry}
 use Rattle.flash.specs.Sizes.{geometry, firmware}
-use Rattle.flash.specs.Buffers.{Flash, flash, fits}
+use Rattle.flash.specs.Buffers.{Flash, fits}
 use Rattle.flash_status.specs.declared.BootStatus.{BootStatus}
 use Rattle.flash_status.specs.declared.BootStatus.TheVariants.{New as BootNew, Testing, Success}
 use Rattle.flash_status.specs.declared.UpdateStatus.{UpdateStatus}
@@ -41,7 +41,7 @@ refusal_numbered n = cond (eqb n 1) OutsideRules (cond (eqb n 10) StatusNotAllow
 
 abbrev coded : Answer Given → MendAnswer
 coded (gives r) = mended_with r.mark r.bytes
-coded (refused n p) = Refused (refusal_numbered n)
+coded (refused n p) = Err (refusal_numbered n)
 
 -- so an answer of the code is told by the rules' answer
 code_of : (a : MendAnswer) → coded (mend_of a) ≡ a

@@ -5,6 +5,7 @@ use lib.ListN.{length, get_or, set, length-set}
 use lib.Seq.{get_or-set_other}
 use native.Mathlib.Omega.{arith}
 use mathlib.Core.List.{List}
+use Rattle.std.specs.Prelude.{Some}
 use Rattle.flash.specs.declared.Geometry.{Geometry}
 use Rattle.flash.specs.Sizes.{firmware, within_limits}
 use Rattle.numbers.specs.Answer.{Answer, gives, refused, no_reason}
@@ -15,7 +16,6 @@ use Rattle.flash_status.specs.declared.UpdateStatus.TheVariants.{Updating}
 use Rattle.flash_flags.specs.declared.Leg.TheVariants.{BootToUpdate}
 use Rattle.exchange.specs.declared.Area.TheVariants.{Boot, Update}
 use Rattle.exchange.specs.declared.Operation.TheVariants.{Erase, Copy}
-use Rattle.exchange.specs.declared.Next.TheVariants.{Do}
 use Rattle.exchange.specs.Operations.{get}
 use Rattle.exchange.specs.Demand.{update, flash_after, AtFinish}
 use Rattle.exchange.specs.Cases.{three}
@@ -57,8 +57,8 @@ record Shown : Type 0 where
   testing : mending check_of three (stopped 0x5A 0x10) ≡ record { answer = refused 14 0; flash = stopped 0x5A 0x10 }
   none : mending check_of three header_gone ≡ record { answer = refused 17 0; flash = header_gone }
   stops : power_up check_of three armed 6 ≡ record { outcome = cut; reason = no_reason; count = 6; flash = stopped 0xF3 0x00 }
-  erases : next_after check_of three (stopped 0xF7 0x00) 0 ≡ Do (Erase Update (sector_number 0))
-  copies : next_after check_of three (stopped 0xF7 0x00) 1 ≡ Do (Copy BootToUpdate (sector_number 0))
+  erases : next_after check_of three (stopped 0xF7 0x00) 0 ≡ Some (Erase Update (sector_number 0))
+  copies : next_after check_of three (stopped 0xF7 0x00) 1 ≡ Some (Copy BootToUpdate (sector_number 0))
   byte : (stopped 0x5A 0x00).update ≡ set (stopped 0xF3 0x00).update (flag_byte three 0) 0x5A
   updating : update_status_at three armed.update ≡ gives Updating
   boot0 : get three Boot 0 before ≡ get three Boot 0 armed

@@ -6,6 +6,7 @@ use mathlib.Core.List.{List, [], ◌∷◌}
 use Prim.Native.Nat.{ℕ, zero, suc, ◌+◌, ◌-◌, ◌*◌, ◌≤◌, ◌<◌, min}
 use native.Mathlib.Omega.{arith}
 use lib.ListN.{length}
+use Rattle.std.specs.Prelude.{Option}
 use Rattle.numbers.specs.Answer.{gives}
 use Rattle.flash.specs.declared.Geometry.{Geometry}
 use Rattle.flash.specs.Sizes.{geometry, firmware, Limits}
@@ -19,7 +20,7 @@ use Rattle.flash_flags.specs.declared.Leg.{Leg}
 use Rattle.flash_flags.specs.declared.Flags.TheVariants.{All0}
 use Rattle.flash_flags.proofs.Laws.{status_flag}
 use Rattle.flash_flags.proofs.Moves.{shown_leg}
-use Rattle.exchange.specs.declared.Next.{Next}
+use Rattle.exchange.specs.declared.Operation.{Operation}
 use Rattle.exchange.specs.declared.Job.TheVariants.{Update}
 use Rattle.exchange.specs.declared.Operation.TheVariants.{WriteFlag, EraseBootTrailer, WriteBootStatus}
 use Rattle.exchange.specs.Operations.{target, next_flag, leg_operation, perform}
@@ -72,13 +73,13 @@ module _ (g : Geometry) (G : Limits g) (t : Torn) (T : length t.bytes ≡ g.size
   module _ {D : List ℕ → List ℕ → Type 0} (old : Flash) {b₀ : BootStatus} (B : Underway update b₀ Updating) where
     torn_next : (f : Flash) (p r : ℕ) → Stage D g old B f p (suc (suc r)) → Stays g (tear_next g t (next_operation Update g p f) f)
     torn_next f p r (in_leg_lem i leg hi hp s d e₁ e₂ ready n) =
-        subst (λ (o : Next). Stays g (tear_next g t o f)) (sym (next_leg g update b₀ Updating B p i leg f e₁ e₂ (shown_leg g f.update i leg hi s.moves)))
+        subst (λ (o : Option Operation). Stays g (tear_next g t o f)) (sym (next_leg g update b₀ Updating B p i leg f e₁ e₂ (shown_leg g f.update i leg hi s.moves)))
         (torn_leg leg p i f hi s.shaped e₂)
     torn_next f p r (at_last b u erase_boot le s e₁ e₂ n z) =
-        subst (λ (o : Next). Stays g (tear_next g t o f)) (sym (next_by_reads Update g p f b u All0 e₁ e₂ (all_0 g G old f s)))
+        subst (λ (o : Option Operation). Stays g (tear_next g t o f)) (sym (next_by_reads Update g p f b u All0 e₁ e₂ (all_0 g G old f s)))
         (either g t.new (perform g EraseBootTrailer f) f e₂ e₂)
     torn_next f p r (at_last b u write_testing le s e₁ e₂ n z) =
-        subst (λ (o : Next). Stays g (tear_next g t o f)) (sym (next_by_reads Update g p f b u All0 e₁ e₂ (all_0 g G old f s)))
+        subst (λ (o : Option Operation). Stays g (tear_next g t o f)) (sym (next_by_reads Update g p f b u All0 e₁ e₂ (all_0 g G old f s)))
         (either g t.new (perform g (WriteBootStatus Testing) f) f e₂ e₂)
     torn_next f p r (at_last b u erase_update le s e₁ e₂ n z) = absurd (omega arith)
     torn_next f p r (at_end b u c y s e₁ e₂ n z) = absurd (omega arith)
@@ -98,7 +99,7 @@ module _ (check : Check) (g : Geometry) (G : Limits g) (old : Flash) {b₀ : Boo
     unfolding left
     after_loss j t T budget h =
         subst (λ (y : Flash). ¬ Finished update g y)
-        (sym (ap₂ (λ (o : Next) (a : PowerUp). tear_next g t o a.flash) (next_in_lem check g G old B I f r s j) (works check g G old B I f r s j)))
+        (sym (ap₂ (λ (o : Option Operation) (a : PowerUp). tear_next g t o a.flash) (next_in_lem check g G old B I f r s j) (works check g G old B I f r s j)))
         (by (run Update g j 0 f) (walked g G old B j f 0 (suc r) s))
       where
         by : (w : Run) → Walked (Decides check g B) g old B (suc r) j w → ¬ Finished update g (tear_next g t (next_operation Update g w.phase w.flash) w.flash)

@@ -1,20 +1,18 @@
 -- A printer whose flags are mended, three sectors of 256 with real headers and digests: an update is stopped, its flag byte is spoiled, a call of
 -- `mend` finds a mark, and calls of `power_up` bring the update to its finish.
-use Rattle.std.specs.Prelude.{◌≡◌, List, [], ◌∷◌, ◌++◌, ℕ, ◌≤◌, ◌<◌, length, replicate, Err}
+use Rattle.std.specs.Prelude.{◌≡◌, List, [], ◌∷◌, ◌++◌, ℕ, ◌≤◌, ◌<◌, length, replicate, Ok, Err, Some, None}
 use Rattle.header_writer.specs.Writing.{header_bytes}
 use Rattle.flash.specs.Sectors.{sector_number}
 use Rattle.flash.specs.Buffers.{Flash, flash}
 use Rattle.flash_flags.specs.declared.Leg.TheVariants.{BootToUpdate}
 use Rattle.exchange.specs.declared.Area.TheVariants.{Update}
 use Rattle.exchange.specs.declared.Operation.TheVariants.{Erase, Copy}
-use Rattle.exchange.specs.declared.Next.TheVariants.{Do}
 use Rattle.exchange.specs.PowerUp.{next_after}
 use Rattle.exchange.specs.LostPower.{Torn}
 use Rattle.exchange.specs.Demand.{update, Starts, flash_after, SectorExchanged}
 use Rattle.exchange.specs.Cases.{three}
 use Rattle.image.specs.Verdict.{check_of}
 use Rattle.numbers.specs.declared.MendRefusal.TheVariants.{WrongTime, NoMarkFits}
-use Rattle.numbers.specs.declared.TurnDownReason.TheVariants.{None}
 use Rattle.mending.specs.declared.Mark.TheVariants.{At}
 use Rattle.mending.specs.Mended.{ButFlags}
 use Rattle.mend.specs.Delivered.{mended_with, MendDelivers}
@@ -36,7 +34,7 @@ stopped flags status = flash (image_partition 7 status) (update_with (header_byt
 
 -- The power-up that came so far: with a budget of 6 it is cut.
 abbrev pub six_done : PowerUpAnswer
-six_done = record { outcome = Cut; reason = None; count = 6 }
+six_done = record { outcome = Ok Cut; reason = None; count = 6 }
 
 abbrev pub cut_at_six : List CallEvent
 cut_at_six = kept_power 3 256 6 (record { answer = six_done; flash = stopped 0xF3 0x00 }) ∷ []
@@ -55,8 +53,8 @@ pub record CallsGive : Type 0 where
   -- the power-up before the flag byte was lost
   pub stops : Delivers 3 256 armed 6 six_done (stopped 0xF3 0x00)
   -- the mended update goes on with an erase and a copy
-  pub erases : next_after check_of three (stopped 0xF7 0x00) 0 ≡ Do (Erase Update (sector_number 0))
-  pub copies : next_after check_of three (stopped 0xF7 0x00) 1 ≡ Do (Copy BootToUpdate (sector_number 0))
+  pub erases : next_after check_of three (stopped 0xF7 0x00) 0 ≡ Some (Erase Update (sector_number 0))
+  pub copies : next_after check_of three (stopped 0xF7 0x00) 1 ≡ Some (Copy BootToUpdate (sector_number 0))
 
 -- Calls from the mended flash that come to the finish; then the firmware sectors with which the update began have changed sides.
 pub record Recovered (j : ℕ) (t : Torn) (budget : ℕ) : Type 0 where

@@ -137,7 +137,9 @@ impl Tally {
             let (none, one, two) = (self.none, self.one, self.two);
             let stayed = self.stayed;
             print!(rt; ": {alike} times sector {sector} flag {flag:x}")?;
-            print!(rt; "; no byte differs in {none}, one in {one}, two in {two}; the last half byte stays in {stayed}")?;
+            print!(rt;
+                "; no byte differs in {none}, one in {one}, two in {two}; the last half byte stays in {stayed}"
+            )?;
         } else {
             print!(rt; ": {alike} times refused {number}")?;
         }
@@ -191,13 +193,7 @@ impl<const PARTITION: usize, const SWAP: usize> Flash<PARTITION, SWAP> {
         let mut t = Tally::new();
         for byte in 0..=255u8 {
             self.spoil_flags(byte);
-            let answer = mend::mend(
-                self.n,
-                self.size,
-                &self.boot,
-                &mut self.update,
-                &self.swap,
-            );
+            let answer = mend::mend(self.n, self.size, &self.boot, &mut self.update, &self.swap);
             let stayed = self.last_half_is(byte / 16);
             let next = t.count(tell(self.n, answer), stayed, &self.update);
             t = next;
@@ -313,7 +309,9 @@ fn stated(rt: &impl Print) -> io::Result<()> {
         (7, 257, 8, 256),
         (7, 256, 8, 257),
     ] {
-        print!(rt; "BOOT version {boot} size {boot_size} UPDATE version {update} size {update_size}")?;
+        print!(rt;
+            "BOOT version {boot} size {boot_size} UPDATE version {update} size {update_size}"
+        )?;
         let old = Image(boot, boot_size, 0x00);
         let new = Image(update, update_size, 0x70);
         with_images(3, 256, old, new).mend_all(rt)?;
