@@ -89,8 +89,7 @@ pub fn compress_block(h: [u32; 8], b: &[u8]) -> [u32; 8]
     ensures { result ≡ fips.compress h (fips.words b.now) }
 {
     let x = do_rounds(load(b), h);
-    let s = x.variables;
-    next_hash(s, h)
+    next_hash(x.variables, h)
 }
 
 // 6.2.2: the hash value after the whole blocks of m, from h on.
