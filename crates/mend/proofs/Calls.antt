@@ -4,12 +4,9 @@ use mathlib.Core.Bool.{Bool, true, false, cond}
 use mathlib.Core.List.{List}
 use Prim.Native.Nat.{ℕ}
 use native.Mathlib.Omega.{arith}
-use Rattle.std.specs.Prelude.{Option, Some, None}
-use Rattle.std.specs.Option.{ok_or}
 use Rattle.numbers.specs.Answer.{Answer, gives, refused, then}
-use Rattle.numbers.specs.declared.MendRefusal.TheVariants.{OutsideRules, NoMarkFits}
 use Rattle.flash.specs.declared.Geometry.{Geometry}
-use Rattle.flash.specs.Sizes.{geometry, geometry_where, geometry_answer}
+use Rattle.flash.specs.Sizes.{geometry, geometry_where}
 use Rattle.flash.specs.Buffers.{Flash, flash, fits, flash_of}
 use Rattle.flash.proofs.Answers.{flash_asked, flash_fits}
 use Rattle.flash_status.specs.declared.BootStatus.{BootStatus}
@@ -19,23 +16,13 @@ use Rattle.image.specs.Verdict.{check_of}
 use Rattle.mending.specs.declared.Mark.{Mark}
 use Rattle.mending.specs.Mending.{may_mend, found, given, with_mark, mending}
 use Rattle.mending_flags.specs.Wrote.{Wrote}
-use Rattle.mending_search.specs.Search.{found_or}
-use Rattle.mend.specs.Inner.{code_answer, permit_at, first_mark, mend_after}
+use Rattle.mend.specs.Inner.{permit_at, first_mark, mend_after}
 
 -- an UPDATE that is NEW is the wrong time
 pub mend_new : (b : BootStatus) → may_mend b UpdateNew ≡ refused 14 0
 mend_new BootNew = refl
 mend_new Testing = refl
 mend_new Success = refl
-
--- what the code makes of a geometry or none, and of a mark or none
-pub asked : (x : Option Geometry) → code_answer (ok_or x OutsideRules) ≡ geometry_answer x
-asked (Some g) = refl
-asked None = refl
-
-pub found_mark : (x : Option Mark) → code_answer (ok_or x NoMarkFits) ≡ found_or x (refused 17 0)
-found_mark (Some k) = refl
-found_mark None = refl
 
 module _ (n s : ℕ) (f : Flash) where
   -- ---- the checks, one after the other

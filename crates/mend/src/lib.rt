@@ -51,17 +51,19 @@ pub fn mend<'a>(
 ) -> Result<Mended, MendRefusal>
     ensures { MendDelivers sectors size (flash boot.now update.old swap.now) result update.new }
 {
-    let geometry = flash::check_flash(sectors, size, boot, update, swap).ok_or(
-        MendRefusal::OutsideRules,
-    )?;
+    let Some(geometry) = flash::check_flash(sectors, size, boot, update, swap) else {
+        return Err(MendRefusal::OutsideRules);
+    };
     permit(geometry, boot, update)?;
-    let found = mending_search::first_fitting(FlashRef {
+    let flash = FlashRef {
         geometry,
         boot,
         update,
         swap,
-    });
-    let mark = found.ok_or(MendRefusal::NoMarkFits)?;
+    };
+    let Some(mark) = mending_search::first_fitting(&flash) else {
+        return Err(MendRefusal::NoMarkFits);
+    };
     let bytes = mending_flags::write_flags(geometry, update, mark);
     Ok(Mended { mark, bytes })
 }

@@ -19,8 +19,8 @@ sector_in f image k i = old_sector f.geometry image k (lent_flash f) i
 
 -- The image's bytes under a mark.
 abbrev pub bytes_of : ClaimedImage → Mark → List ℕ
-bytes_of o k = old_bytes o.flash.geometry o.image k (lent_flash o.flash)
+bytes_of o k = old_bytes o.flash.now.geometry o.image k (lent_flash o.flash.now)
 
 -- The hash value of its first n sectors under a mark.
 abbrev pub hash_of : ClaimedImage → Mark → ℕ → List ℕ
-hash_of o k n = hash_before o.flash.geometry o.image k (lent_flash o.flash) o.claim n
+hash_of o k n = hash_before o.flash.now.geometry o.image k (lent_flash o.flash.now) o.claim n

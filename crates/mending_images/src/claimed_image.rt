@@ -8,8 +8,8 @@ use mending::OldImage;
 // One of the old images in a flash, with what its header states: that lies within the image.
 #[derive(Clone, Copy)]
 pub struct ClaimedImage<'a> {
-    pub flash: FlashRef<'a>,
+    pub flash: &'a FlashRef<'a>,
     pub image: OldImage,
     pub claim: Claim,
-    pub ghost lies: { Lies flash.geometry claim },
+    pub ghost lies: { Lies flash.now.geometry claim },
 }

@@ -117,16 +117,16 @@ fn firmware_in(g: Geometry, sector: &[u8], i: SectorNumber, end: usize) -> &[u8]
 impl<'a> ClaimedImage<'a> {
     // Sector i, as the mark shows it.
     fn sector(&self, mark: Mark, i: SectorNumber) -> &'a [u8]
-        requires { i.0 < firmware self.now.flash.geometry }
-        ensures { result.now ≡ sector_in self.now.flash self.now.image mark i.0 }
+        requires { i.0 < firmware self.now.flash.now.geometry }
+        ensures { result.now ≡ sector_in self.now.flash.now self.now.image mark i.0 }
     {
         self.flash.old_sector(self.image, mark, i)
     }
 
     // What sector i has of the firmware.
     fn firmware(&self, mark: Mark, i: SectorNumber) -> &'a [u8]
-        requires { i.0 < firmware self.now.flash.geometry }
-        ensures { result.now ≡ firmware_in self.now.flash.geometry.size i.0 self.now.claim.end (sector_in self.now.flash self.now.image mark i.0) }
+        requires { i.0 < firmware self.now.flash.now.geometry }
+        ensures { result.now ≡ firmware_in self.now.flash.now.geometry.size i.0 self.now.claim.end (sector_in self.now.flash.now self.now.image mark i.0) }
     {
         firmware_in(self.flash.geometry, self.sector(mark, i), i, self.claim.end)
     }
@@ -135,8 +135,8 @@ impl<'a> ClaimedImage<'a> {
     // another sector what is left of them, and of the firmware, behind the last whole block.
     #[tactic(auto, using(mending::proofs::Images::old_sector_length))]
     fn bytes_before(&self, mark: Mark, i: SectorNumber) -> &'a [u8]
-        requires { i.0 < firmware self.now.flash.geometry }
-        ensures { result.now ≡ bytes_before self.now.flash.geometry self.now.image mark (lent_flash self.now.flash) self.now.claim.digest i.0 }
+        requires { i.0 < firmware self.now.flash.now.geometry }
+        ensures { result.now ≡ bytes_before self.now.flash.now.geometry self.now.image mark (lent_flash self.now.flash.now) self.now.claim.digest i.0 }
     {
         let g = self.flash.geometry;
         let digest = self.claim.digest;
@@ -154,7 +154,7 @@ impl<'a> ClaimedImage<'a> {
 
     // The hash value that has taken in sector i too. The sector in which the firmware ends is left to the digest.
     pub fn hash_sector(&self, mark: Mark, i: SectorNumber, h: [u32; 8]) -> [u32; 8]
-        requires { (i.0 < firmware self.now.flash.geometry) × (h ≡ hash_of self.now mark i.0) }
+        requires { (i.0 < firmware self.now.flash.now.geometry) × (h ≡ hash_of self.now mark i.0) }
         ensures { result ≡ hash_of self.now mark (i.0 + 1) }
     {
         if (self.claim.end - 1) / self.flash.geometry.size <= i.0 {
@@ -165,8 +165,8 @@ impl<'a> ClaimedImage<'a> {
 
     // The hash value that has taken in all sectors before the one in which the firmware ends. d has taken in those before `start`.
     fn hash_rest(&self, mark: Mark, start: SectorNumber, d: [u32; 8]) -> [u32; 8]
-        requires { (start.0 ≤ firmware self.now.flash.geometry) × (d ≡ hash_of self.now mark start.0) }
-        ensures { result ≡ hash_of self.now mark (firmware self.now.flash.geometry) }
+        requires { (start.0 ≤ firmware self.now.flash.now.geometry) × (d ≡ hash_of self.now mark start.0) }
+        ensures { result ≡ hash_of self.now mark (firmware self.now.flash.now.geometry) }
     {
         let mut h = d;
         for i in start.0..self.flash.geometry.firmware_sectors() {
@@ -178,7 +178,7 @@ impl<'a> ClaimedImage<'a> {
 
     // The digest of what the image's digest covers. h has taken in the sectors before the one in which the firmware ends.
     fn end_digest(&self, mark: Mark, h: [u32; 8]) -> [u8; 32]
-        requires { h ≡ hash_of self.now mark (firmware self.now.flash.geometry) }
+        requires { h ≡ hash_of self.now mark (firmware self.now.flash.now.geometry) }
         ensures { result ≡ sha256 (covered_by self.now.claim (bytes_of self.now mark)) }
     {
         let end = self.claim.end;
@@ -194,7 +194,7 @@ impl<'a> ClaimedImage<'a> {
 
     // The image has the digest that its header states. d has taken in the sectors before `start`.
     pub fn has_digest(&self, mark: Mark, start: SectorNumber, d: [u32; 8]) -> bool
-        requires { (start.0 ≤ firmware self.now.flash.geometry) × (d ≡ hash_of self.now mark start.0) }
+        requires { (start.0 ≤ firmware self.now.flash.now.geometry) × (d ≡ hash_of self.now mark start.0) }
         ensures { result ≡ has_digest (bytes_of self.now mark) self.now.claim }
     {
         let h = self.hash_rest(mark, start, d);

@@ -43,8 +43,8 @@ fn mark_after(m: usize, moves: usize) -> Mark
 // ---- the marks of sector 0
 
 // The mark fits.
-fn fits(flash: FlashRef, mark: Mark) -> bool
-    ensures { result ≡ fits_mark check_of flash.entry.geometry (lent_flash flash.entry) mark }
+fn fits<'a>(flash: &'a FlashRef<'a>, mark: Mark) -> bool
+    ensures { result ≡ fits_mark check_of flash.now.geometry (lent_flash flash.now) mark }
 {
     match flash.read_claims(mark) {
         Some((u, b)) => {
@@ -66,9 +66,9 @@ fn fits(flash: FlashRef, mark: Mark) -> bool
 }
 
 // The first of the marks of sector 0 that fits. Each has headers of its own.
-fn search_first(flash: FlashRef) -> Option<Mark>
-    ensures { found_or result (first_from 3 flash.entry.geometry (lent_flash flash.entry))
-        ≡ first_from 0 flash.entry.geometry (lent_flash flash.entry) }
+fn search_first<'a>(flash: &'a FlashRef<'a>) -> Option<Mark>
+    ensures { found_or result (first_from 3 flash.now.geometry (lent_flash flash.now))
+        ≡ first_from 0 flash.now.geometry (lent_flash flash.now) }
 {
     let m = flash.geometry.firmware_sectors();
     for moves in 0..LEGS {
@@ -84,7 +84,7 @@ fn search_first(flash: FlashRef) -> Option<Mark>
 
 // The hash value for the next mark: behind the last mark of a sector it takes in that sector, which is exchanged under all later marks.
 fn hash_on(old: &ClaimedImage, moves: usize, h: [u32; 8]) -> [u32; 8]
-    requires { (moves ≤ 3 * firmware old.now.flash.geometry) × (h ≡ hash_of old.now All0 (moves / 3)) }
+    requires { (moves ≤ 3 * firmware old.now.flash.now.geometry) × (h ≡ hash_of old.now All0 (moves / 3)) }
     ensures { result ≡ hash_of old.now All0 ((moves + 1) / 3) }
 {
     if moves % LEGS == LEGS - 1 {
@@ -94,9 +94,9 @@ fn hash_on(old: &ClaimedImage, moves: usize, h: [u32; 8]) -> [u32; 8]
 }
 
 // The first of the marks behind sector 0 that fits, by the claims of their headers: UPDATE's u, and BOOT's b.
-fn search_behind(flash: FlashRef, u: Claim, b: Claim) -> Option<Mark>
-    requires { claims_under flash.geometry All0 (lent_flash flash) ≡ Some (u, b) }
-    ensures { found_or result (refused 17 0) ≡ first_from 3 flash.entry.geometry (lent_flash flash.entry) }
+fn search_behind<'a>(flash: &'a FlashRef<'a>, u: Claim, b: Claim) -> Option<Mark>
+    requires { claims_under flash.now.geometry All0 (lent_flash flash.now) ≡ Some (u, b) }
+    ensures { found_or result (refused 17 0) ≡ first_from 3 flash.now.geometry (lent_flash flash.now) }
 {
     let update = ClaimedImage {
         flash,
@@ -119,17 +119,17 @@ fn search_behind(flash: FlashRef, u: Claim, b: Claim) -> Option<Mark>
             return Some(mark);
         }
         let x = hash_on(&update, moves, d);
-        let y = hash_on(&boot, moves, e);
         d = x;
+        let y = hash_on(&boot, moves, e);
         e = y;
     }
     None
 }
 
 // The first mark that fits. Behind sector 0 none does where the headers do not.
-pub fn first_fitting(flash: FlashRef) -> Option<Mark>
+pub fn first_fitting<'a>(flash: &'a FlashRef<'a>) -> Option<Mark>
     ensures { found_or result (refused 17 0)
-        ≡ first_fitting (fits_mark check_of flash.entry.geometry (lent_flash flash.entry)) (marks (firmware flash.entry.geometry)) }
+        ≡ first_fitting (fits_mark check_of flash.now.geometry (lent_flash flash.now)) (marks (firmware flash.now.geometry)) }
 {
     if let Some(mark) = search_first(flash) {
         return Some(mark);

@@ -15,7 +15,7 @@ use Rattle.mending_search.proofs.first_fitting.Goals as goal
 
 pub returns-in_err-u : goal.returns-in_err-u
 returns-in_err-u c =
-    let f = c.args.flash in
+    let f = c.args.flash.now in
     let g = f.geometry in
     ap (λ (r : Option Mark). found_or r (refused 17 0)) c.from_residual.ensures
     ∙ none_fits (fits_mark check_of g (lent_flash f)) (firmware g) 3 (omega (arith, some_firmware g f.shaped.limits))

@@ -12,27 +12,27 @@ use Rattle.mending_search.proofs.fits.Goals as goal
 
 pub invariant_of-update : goal.invariant_of-update
 invariant_of-update c =
-    let f = c.args.flash in
+    let f = c.args.flash.now in
     record { lies = (claims_lie f.geometry c.args.mark (lent_flash f) _ _ (sym c.read_claims.ensures ∙ c.in-Some.is)).0 }
 
 pub has_digest-requires : goal.has_digest-requires
 unfolding H0
 has_digest-requires c =
-    let f = c.args.flash in (omega arith, none_hashed f.geometry (lent_flash f) Update c.args.mark c.in-Some.u)
+    let f = c.args.flash.now in (omega arith, none_hashed f.geometry (lent_flash f) Update c.args.mark c.in-Some.u)
 
 pub invariant_of-boot : goal.invariant_of-boot
 invariant_of-boot c =
-    let f = c.args.flash in
+    let f = c.args.flash.now in
     record { lies = (claims_lie f.geometry c.args.mark (lent_flash f) _ _ (sym c.read_claims.ensures ∙ c.in-Some.is)).1 }
 
 pub has_digest-requires-then-has_digest : goal.has_digest-requires-then-has_digest
 unfolding H0
 has_digest-requires-then-has_digest c =
-    let f = c.args.flash in (omega arith, none_hashed f.geometry (lent_flash f) Boot c.args.mark c.in-Some.b)
+    let f = c.args.flash.now in (omega arith, none_hashed f.geometry (lent_flash f) Boot c.args.mark c.in-Some.b)
 
 pub returns-then-has_digest : goal.returns-then-has_digest
 returns-then-has_digest c =
-    let f = c.args.flash in
+    let f = c.args.flash.now in
     let l = lent_flash f in
     c.has_digest-then-has_digest.ensures
     ∙ ap (λ (x : Bool). x && has_digest (old_bytes f.geometry Boot c.args.mark l) c.in-Some.b) (sym c.if-has_digest.true ∙ c.has_digest.ensures)
@@ -40,7 +40,7 @@ returns-then-has_digest c =
 
 pub returns-else-has_digest : goal.returns-else-has_digest
 returns-else-has_digest c =
-    let f = c.args.flash in
+    let f = c.args.flash.now in
     let l = lent_flash f in
     c.if-has_digest.false
     ∙ ap (λ (x : Bool). x && has_digest (old_bytes f.geometry Boot c.args.mark l) c.in-Some.b) (sym c.if-has_digest.false ∙ c.has_digest.ensures)
@@ -48,4 +48,4 @@ returns-else-has_digest c =
 
 pub returns-in-None : goal.returns-in-None
 returns-in-None c =
-    let f = c.args.flash in fits_claims f.geometry (lent_flash f) f.shaped c.args.mark _ (sym c.in-None.is ∙ c.read_claims.ensures)
+    let f = c.args.flash.now in fits_claims f.geometry (lent_flash f) f.shaped c.args.mark _ (sym c.in-None.is ∙ c.read_claims.ensures)

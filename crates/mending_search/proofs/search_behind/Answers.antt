@@ -21,22 +21,22 @@ use Rattle.mending_search.proofs.search_behind.Goals as goal
 
 pub invariant_of-update : goal.invariant_of-update
 invariant_of-update c =
-    let a = c.args in record { lies = (claims_lie a.flash.geometry All0 (lent_flash a.flash) a.u a.b c.requires).0 }
+    let a = c.args in record { lies = (claims_lie a.flash.now.geometry All0 (lent_flash a.flash.now) a.u a.b c.requires).0 }
 
 pub hash_on-d-requires : goal.hash_on-d-requires
 unfolding H0
 hash_on-d-requires c =
-    let f = c.args.flash in
+    let f = c.args.flash.now in
     (omega (arith, some_firmware f.geometry f.shaped.limits), none_hashed f.geometry (lent_flash f) Update All0 c.args.u)
 
 pub invariant_of-boot : goal.invariant_of-boot
 invariant_of-boot c =
-    let a = c.args in record { lies = (claims_lie a.flash.geometry All0 (lent_flash a.flash) a.u a.b c.requires).1 }
+    let a = c.args in record { lies = (claims_lie a.flash.now.geometry All0 (lent_flash a.flash.now) a.u a.b c.requires).1 }
 
 pub hash_on-e-requires : goal.hash_on-e-requires
 unfolding H0
 hash_on-e-requires c =
-    let f = c.args.flash in
+    let f = c.args.flash.now in
     (omega (arith, some_firmware f.geometry f.shaped.limits), none_hashed f.geometry (lent_flash f) Boot All0 c.args.b)
 
 pub loop-moves-init : goal.loop-moves-init
@@ -45,8 +45,8 @@ loop-moves-init c = (c.hash_on-d.ensures, c.hash_on-e.ensures, refl)
 pub has_digest-requires : goal.has_digest-requires
 has_digest-requires c =
     let a = c.args in
-    let g = a.flash.geometry in
-    let f = lent_flash a.flash in
+    let g = a.flash.now.geometry in
+    let f = lent_flash a.flash.now in
     let n = c.firmware_sectors-m in
     let moves = c.loop-moves.moves in
     let k = c.mark_after-mark.result in
@@ -56,8 +56,8 @@ has_digest-requires c =
 pub has_digest-requires-then-has_digest : goal.has_digest-requires-then-has_digest
 has_digest-requires-then-has_digest c =
     let a = c.args in
-    let g = a.flash.geometry in
-    let f = lent_flash a.flash in
+    let g = a.flash.now.geometry in
+    let f = lent_flash a.flash.now in
     let n = c.firmware_sectors-m in
     let moves = c.loop-moves.moves in
     let k = c.mark_after-mark.result in
@@ -67,22 +67,22 @@ has_digest-requires-then-has_digest c =
 pub returns-then-has_digest-2 : goal.returns-then-has_digest-2
 returns-then-has_digest-2 c =
     let a = c.args in
-    let g = a.flash.geometry in
-    let f = lent_flash a.flash in
+    let g = a.flash.now.geometry in
+    let f = lent_flash a.flash.now in
     let n = c.firmware_sectors-m in
     let moves = c.loop-moves.moves in
     let k = c.mark_after-mark.result in
     let w = of_sectors n.result (firmware g) moves k n.ensures c.mark_after-mark.ensures in
     fits_here (fits_mark check_of g f) (firmware g) moves k w.0 w.1
-    (sym (fits_behind g f a.flash.shaped k (Some (a.u, a.b)) w.0 (omega (arith, c.loop-moves.auto.moves, w.1)) (sym c.requires))
+    (sym (fits_behind g f a.flash.now.shaped k (Some (a.u, a.b)) w.0 (omega (arith, c.loop-moves.auto.moves, w.1)) (sym c.requires))
     ∙ ap₂ (λ (x y : Bool). x && y) (sym c.has_digest.ensures ∙ c.if-has_digest.true) (sym c.has_digest-then-has_digest.ensures ∙ c.if-has_digest-2.true))
     ∙ c.loop-moves.invariant.2
 
 pub loop-moves-preserved : goal.loop-moves-preserved
 loop-moves-preserved c =
     let a = c.args in
-    let g = a.flash.geometry in
-    let f = lent_flash a.flash in
+    let g = a.flash.now.geometry in
+    let f = lent_flash a.flash.now in
     let n = c.firmware_sectors-m in
     let moves = c.loop-moves.moves in
     let k = c.mark_after-mark.result in
@@ -95,15 +95,15 @@ loop-moves-preserved c =
       c.hash_on-x.ensures,
       c.hash_on-y.ensures,
       not_here (fits_mark check_of g f) (firmware g) moves k w.0 w.1
-          (sym (fits_behind g f a.flash.shaped k (Some (a.u, a.b)) w.0 (omega (arith, c.loop-moves.auto.moves, w.1)) (sym c.requires)) ∙ no)
+          (sym (fits_behind g f a.flash.now.shaped k (Some (a.u, a.b)) w.0 (omega (arith, c.loop-moves.auto.moves, w.1)) (sym c.requires)) ∙ no)
           ∙ c.loop-moves.invariant.2,
     )
 
 pub returns-else-has_digest : goal.returns-else-has_digest
 returns-else-has_digest c =
     let a = c.args in
-    let g = a.flash.geometry in
-    let f = lent_flash a.flash in
+    let g = a.flash.now.geometry in
+    let f = lent_flash a.flash.now in
     let n = c.firmware_sectors-m in
     let moves = c.loop-moves.moves in
     let k = c.mark_after-mark.result in
@@ -115,5 +115,5 @@ returns-else-has_digest c =
     ] in
     none_left (fits_mark check_of g f) (firmware g) (moves + 1) (omega (arith, n.ensures))
     ∙ not_here (fits_mark check_of g f) (firmware g) moves k w.0 w.1
-    (sym (fits_behind g f a.flash.shaped k (Some (a.u, a.b)) w.0 (omega (arith, c.loop-moves.auto.moves, w.1)) (sym c.requires)) ∙ no)
+    (sym (fits_behind g f a.flash.now.shaped k (Some (a.u, a.b)) w.0 (omega (arith, c.loop-moves.auto.moves, w.1)) (sym c.requires)) ∙ no)
     ∙ c.loop-moves.invariant.2

@@ -10,11 +10,11 @@ use Rattle.mending_search.proofs.search_first.Goals as goal
 
 pub mark_after-mark-requires : goal.mark_after-mark-requires
 mark_after-mark-requires c =
-    let f = c.args.flash in omega (arith, c.firmware_sectors-m.ensures, some_firmware f.geometry f.shaped.limits)
+    let f = c.args.flash.now in omega (arith, c.firmware_sectors-m.ensures, some_firmware f.geometry f.shaped.limits)
 
 pub returns-then-fits : goal.returns-then-fits
 returns-then-fits c =
-    let f = c.args.flash in
+    let f = c.args.flash.now in
     let n = c.firmware_sectors-m in
     let moves = c.loop-moves.moves in
     let k = c.mark_after-mark.result in
@@ -24,7 +24,7 @@ returns-then-fits c =
 
 pub loop-moves-preserved : goal.loop-moves-preserved
 loop-moves-preserved c =
-    let f = c.args.flash in
+    let f = c.args.flash.now in
     let n = c.firmware_sectors-m in
     let moves = c.loop-moves.moves in
     let k = c.mark_after-mark.result in

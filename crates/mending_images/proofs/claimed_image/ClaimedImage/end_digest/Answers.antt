@@ -5,10 +5,10 @@ use Rattle.mending_images.proofs.claimed_image.ClaimedImage.end_digest.Goals as 
 pub digest_from_two-requires : goal.digest_from_two-requires
 digest_from_two-requires c =
     let o = c.args.self.now in
-    same_count o.flash.geometry (lent_flash o.flash) o.flash.shaped o.image c.args.mark o.claim o.lies c.bytes_before.ensures c.firmware.ensures
+    same_count o.flash.now.geometry (lent_flash o.flash.now) o.flash.now.shaped o.image c.args.mark o.claim o.lies c.bytes_before.ensures c.firmware.ensures
 
 pub returns : goal.returns
 returns c =
     let o = c.args.self.now in
-    digest_taken o.flash.geometry (lent_flash o.flash) o.flash.shaped o.image c.args.mark o.claim o.lies c.bytes_before.ensures c.firmware.ensures
+    digest_taken o.flash.now.geometry (lent_flash o.flash.now) o.flash.now.shaped o.image c.args.mark o.claim o.lies c.bytes_before.ensures c.firmware.ensures
     c.requires c.digest_from_two.ensures

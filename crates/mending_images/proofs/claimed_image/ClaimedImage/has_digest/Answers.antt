@@ -14,7 +14,7 @@ use Rattle.mending_images.proofs.claimed_image.ClaimedImage.has_digest.Goals as 
 pub slice_bounds-eq-end : goal.slice_bounds-eq-end
 slice_bounds-eq-end c =
     let o = c.args.self.now in
-    let f = o.flash in
+    let f = o.flash.now in
     omega (
       arith,
       o.lies.digest,
@@ -28,6 +28,6 @@ returns c =
     let at : ℕ = o.claim.digest + 4 in
     let stated : List ℕ = take (at + 32 - at) (drop at c.sector-first.result.now) in
     let w = bytes_decides c.as_slice.result.now stated in
-    digest_compared o.flash.geometry (lent_flash o.flash) o.flash.shaped o.image c.args.mark o.claim o.lies (c.as_slice.ensures ∙ c.end_digest-digest.ensures)
+    digest_compared o.flash.now.geometry (lent_flash o.flash.now) o.flash.now.shaped o.image c.args.mark o.claim o.lies (c.as_slice.ensures ∙ c.end_digest-digest.ensures)
     (lent_part at 32 c.sector-first.result.now ∙ ap (part at 32) c.sector-first.ensures)
     (λ e. w.0 (sym c.eq.ensures ∙ e)) (λ e. c.eq.ensures ∙ w.1 e)
