@@ -1,2 +1,2 @@
--- Bytes laid over a block.
-pub mod Blocks
+-- The bytes of a hash value.
+mod Words

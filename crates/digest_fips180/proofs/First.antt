@@ -1,27 +1,29 @@
--- A list that a loop fills, entry after entry, with f 0, f 1, ..
-use mathlib.Core.Path.{◌≡◌, sym, ap, ap₂, ◌∙◌}
-use mathlib.Core.List.{List, [], ◌∷◌, ◌++◌, append_assoc}
-use Prim.Native.Nat.{ℕ, suc, ◌+◌, ◌<◌}
-use native.Mathlib.Omega.{arith}
-use native.Mathlib.Numerals.{add-one}
-use lib.ListN.{length, take, set}
-use lib.Seq.{take-suc-set, take_all}
-use Rattle.digest_fips180.specs.Sha256.{first}
+-- A list of f 0, f 1, .., as `array::from_fn` makes it.
+use Rattle.std.proofs.Common.{◌≡◌, ℕ, zero, suc, ◌+◌, ◌<◌, ◌≤◌, List, [], ◌∷◌, ◌++◌, length, take, sym, refl, ap₂, subst, ◌∙◌, arith, add-zero, zero-add}
+use Rattle.std.proofs.lemmas.List.{take_all}
+use Rattle.std.proofs.Math.Seq.{take-suc}
+use Rattle.std.specs.Iterator.{ActsAs}
+use Rattle.std.specs.Array.{IsFromFnResult, IsFromFnResultFrom}
+use denote.Param.Members.{Mut}
+use Rattle.digest_fips180.specs.Sha256.{◌!◌, first}
 
--- one entry more
-pub first_more : (f : ℕ → ℕ) (l : List ℕ) (n : ℕ) {x : ℕ} → n < length l → take n l ≡ first n f → x ≡ f n → take (n + 1) (set l n x) ≡ first (n + 1) f
+-- entry by entry
+from_entries : (f : ℕ → ℕ) (l : List ℕ) (n : ℕ) → n ≤ length l → ((k : ℕ) → k < n → l ! k ≡ f k) → take n l ≡ first n f
 unfolding first
-first_more f l n {x} h p q = rw add-one (take-suc-set l n x h ∙ ap₂ (λ a b. a ++ b ∷ []) p q)
+from_entries f l zero h e = refl
+from_entries f l (suc n) h e =
+    take-suc l n 0 (omega arith) ∙ ap₂ (λ a x. a ++ x ∷ []) (from_entries f l n (omega arith) (λ k lt. e k (omega arith))) (e n (omega arith))
 
--- one entry more, behind the k entries of t
-pub first_behind : (f : ℕ → ℕ) (t l : List ℕ) (k n : ℕ) {x : ℕ} → k + n < length l → take (k + n) l ≡ t ++ first n f → x ≡ f n
-    → take (k + (n + 1)) (set l (k + n) x) ≡ t ++ first (n + 1) f
-unfolding first
-first_behind f t l k n {x} h p q =
-    let e : k + suc n ≡ suc (k + n) = omega arith in
-    rw add-one (ap (λ (m : ℕ). take m (set l (k + n) x)) e ∙ take-suc-set l (k + n) x h ∙ ap₂ (λ a b. a ++ b ∷ []) p q
-    ∙ append_assoc t (first n f) (f n ∷ []))
+-- g is a closure that answers with f, and stays the same
+module _ {C : Type 0} {g : Mut C (ℕ × Unit {0}) ℕ} {c : C} (f : ℕ → ℕ) (acts : ActsAs g c f) where
+  entry : (l : List ℕ) (i n k : ℕ) → IsFromFnResultFrom g c l i n → k < n → l ! (i + k) ≡ f (i + k)
+  entry l i (suc n) zero (d, y, at, called, others) lt = rw add-zero (at.1 0 ∙ (acts i y d called).1)
+  entry l i (suc n) (suc k) (d, y, at, called, others) lt =
+      let e : i + 1 + k ≡ i + suc k = omega arith in
+      let same = subst (λ x. IsFromFnResultFrom g x l (i + 1) n) (acts i y d called).0 others in
+      subst (λ j. l ! j ≡ f j) e (entry l (i + 1) n k same (omega arith))
+  entry l i zero k w lt = absurd (omega arith)
 
--- all of them
-pub first_all : (f : ℕ → ℕ) (l : List ℕ) (n : ℕ) → length l ≡ n → take n l ≡ first n f → l ≡ first n f
-first_all f l n h p = sym (take_all n l (omega arith)) ∙ p
+  pub from_fn_made : {l : List ℕ} {n : ℕ} → IsFromFnResult g c l n → l ≡ first n f
+  from_fn_made {l} {n} made =
+      sym (take_all n l (omega arith)) ∙ from_entries f l n (omega arith) (λ k lt. subst (λ j. l ! j ≡ f j) (zero-add k) (entry l 0 n k made.each lt))

@@ -1,2 +1,3 @@
--- The lists that loops fill.
+-- Lists of f 0, f 1, .., and the bytes of numbers.
 pub mod First
+pub mod Bytes

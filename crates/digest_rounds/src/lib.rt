@@ -8,14 +8,6 @@ ghost use Rattle.digest_fips180.specs.Sha256 as fips;
 ghost use Rattle.digest_fips180.specs.Sha256.{◌⊞◌, σ₀, σ₁};
 ghost use Rattle.digest_rounds.specs.Window as window;
 
-// 3.2: rotation to the right by n places.
-fn rotr(x: u32, n: u32) -> u32
-    requires { (0 < n) × (n < 32) }
-    ensures { result ≡ fips.ROTR n x }
-{
-    (x >> n) | (x << (32 - n))
-}
-
 // 4.1.2: the six functions.
 fn ch(x: u32, y: u32, z: u32) -> u32
     ensures { result ≡ fips.Ch x y z }
@@ -32,52 +24,49 @@ fn maj(x: u32, y: u32, z: u32) -> u32
 fn big_sigma0(x: u32) -> u32
     ensures { result ≡ fips.Σ₀ x }
 {
-    rotr(x ^ rotr(x, 11), 2) ^ rotr(x, 22)
+    (x ^ x.rotate_right(11)).rotate_right(2) ^ x.rotate_right(22)
 }
 
 fn big_sigma1(x: u32) -> u32
     ensures { result ≡ fips.Σ₁ x }
 {
-    rotr(x ^ rotr(x, 5), 6) ^ rotr(x, 25)
+    (x ^ x.rotate_right(5)).rotate_right(6) ^ x.rotate_right(25)
 }
 
 fn small_sigma0(x: u32) -> u32
     ensures { result ≡ fips.σ₀ x }
 {
-    rotr(x ^ rotr(x, 11), 7) ^ (x >> 3)
+    (x ^ x.rotate_right(11)).rotate_right(7) ^ (x >> 3)
 }
 
 fn small_sigma1(x: u32) -> u32
     ensures { result ≡ fips.σ₁ x }
 {
-    rotr(x ^ rotr(x, 2), 17) ^ (x >> 10)
-}
-
-// 3.2: addition modulo 2^32.
-pub fn add(x: u32, y: u32) -> u32
-    ensures { result ≡ x ⊞ y }
-{
-    std::num::wrapping_add_u32(x, y)
+    (x ^ x.rotate_right(2)).rotate_right(17) ^ (x >> 10)
 }
 
 // 6.2.2, step 1: W_t of W_(t-2), W_(t-7), W_(t-15) and W_(t-16).
 fn next_word(w2: u32, w7: u32, w15: u32, w16: u32) -> u32
     ensures { result ≡ σ₁ w2 ⊞ w7 ⊞ σ₀ w15 ⊞ w16 }
 {
-    add(add(add(small_sigma1(w2), w7), small_sigma0(w15)), w16)
+    small_sigma1(w2)
+        .wrapping_add(w7)
+        .wrapping_add(small_sigma0(w15))
+        .wrapping_add(w16)
 }
 
-// 6.2.2, step 3, at one t: k is K_t and w is W_t. What is known first is added first, and e comes before a: the next round waits for e.
+// 6.2.2, step 3, at one t: k is K_t and w is W_t. What is known first is added first, and Σ₁ last.
 fn do_round(s: [u32; 8], k: u32, w: u32) -> [u32; 8]
     ensures { result ≡ fips.round s k w }
 {
-    let t1 = add(
-        add(add(add(s[7], k), w), ch(s[4], s[5], s[6])),
-        big_sigma1(s[4]),
-    );
-    let e = add(s[3], t1);
-    let t2 = add(big_sigma0(s[0]), maj(s[0], s[1], s[2]));
-    [add(t1, t2), s[0], s[1], s[2], e, s[4], s[5], s[6]]
+    let [a, b, c, d, e, f, g, h] = s;
+    let t1 = h
+        .wrapping_add(k)
+        .wrapping_add(w)
+        .wrapping_add(ch(e, f, g))
+        .wrapping_add(big_sigma1(e));
+    let t2 = big_sigma0(a).wrapping_add(maj(a, b, c));
+    [t1.wrapping_add(t2), a, b, c, d.wrapping_add(t1), e, f, g]
 }
 
 // The window, in which word n stands at place n % 16, and the working variables.
@@ -105,12 +94,15 @@ fn window_for(v: [u32; 16], t: usize) -> [u32; 16]
     w
 }
 
-// Round t, with its word out of the window; k is K_t.
+// Round t, with its word out of the window; k is K_t. In line, so that a caller that knows t % 16 has no index to work out.
+#[inline(always)]
 pub fn round_on(x: Rounds, t: usize, k: u32) -> Rounds
     ensures { result ≡ window.round_on x t k }
 {
-    let v = x.window;
-    let s = x.variables;
+    let Rounds {
+        window: v,
+        variables: s,
+    } = x;
     let w = window_for(v, t);
     Rounds {
         window: w,

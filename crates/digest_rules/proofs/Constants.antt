@@ -1,28 +1,17 @@
 -- The constants follow their rule: one test over each table, which antt computes.
 use mathlib.Core.Path.{◌≡◌, refl}
-use mathlib.Core.Bool.{Bool, true, false, cond, not, ◌&&◌}
+use mathlib.Core.Bool.{Bool, true, cond, not, ◌&&◌}
 use mathlib.Core.List.{List}
 use Prim.Native.Nat.{ℕ, zero, suc, ◌+◌, ◌-◌, ◌*◌, ◌%◌, ◌^◌, ◌≤◌, ◌<◌}
 use native.Mathlib.Nat.{le_of_suc-le-suc, not-suc-le-zero}
 use native.Mathlib.Omega.{arith}
 use lib.Dec.{T, leb, ltb, eqb, leb→le, le→leb, ltb→lt, eqb→eq, T_not, not_T}
+use lib.Ieee.Fits.{and_i, and_l, and_r}
 use lib.ListN.{length}
 use Rattle.digest_fips180.specs.Sha256.{◌!◌, K, H0}
 use Rattle.digest_rules.specs.Rules.{Prime, NextPrime, primes, FirstPrimes, Fraction, RootTable, ConstantsRule}
 
 -- ---- tests
-
-and_left : (a b : Bool) → T (a && b) → T a
-and_left true b t = tt
-and_left false b t = t
-
-and_right : (a b : Bool) → T (a && b) → T b
-and_right true b t = t
-and_right false b t = absurd t
-
-and_both : (a b : Bool) → T a → T b → T (a && b)
-and_both true b s t = t
-and_both false b s t = s
 
 -- the test f passes at each number below n
 abbrev all : ℕ → (ℕ → Bool) → Bool
@@ -31,12 +20,12 @@ all (suc n) f = f 0 && all n (λ i. f (suc i))
 
 all_at : (n : ℕ) (f : ℕ → Bool) → T (all n f) → (t : ℕ) → t < n → T (f t)
 all_at zero f p t l = absurd (not-suc-le-zero l)
-all_at (suc n) f p zero l = and_left (f 0) (all n (λ i. f (suc i))) p
-all_at (suc n) f p (suc t) l = all_at n (λ i. f (suc i)) (and_right (f 0) (all n (λ i. f (suc i))) p) t (le_of_suc-le-suc l)
+all_at (suc n) f p zero l = and_l (f 0) (all n (λ i. f (suc i))) p
+all_at (suc n) f p (suc t) l = all_at n (λ i. f (suc i)) (and_r (f 0) (all n (λ i. f (suc i))) p) t (le_of_suc-le-suc l)
 
 all_of : (n : ℕ) (f : ℕ → Bool) → ((t : ℕ) → t < n → T (f t)) → T (all n f)
 all_of zero f p = tt
-all_of (suc n) f p = and_both (f 0) (all n (λ i. f (suc i))) (p 0 (omega arith)) (all_of n (λ i. f (suc i)) (λ t l. p (suc t) (omega arith)))
+all_of (suc n) f p = and_i (f 0) (all n (λ i. f (suc i))) (p 0 (omega arith)) (all_of n (λ i. f (suc i)) (λ t l. p (suc t) (omega arith)))
 
 -- ---- primes
 
@@ -50,12 +39,12 @@ prime? p = leb 2 p && all (p - 2) (keeps p)
 prime_sound : (p : ℕ) → T (prime? p) → Prime p
 unfolding prime? keeps
 prime_sound p t =
-    let l : 2 ≤ p = leb→le 2 p (and_left (leb 2 p) _ t) in
+    let l : 2 ≤ p = leb→le 2 p (and_l (leb 2 p) _ t) in
     record {
       least = l;
       only = λ d g h e.
           let s : d - 2 + 2 ≡ d = omega arith in
-          let n = all_at (p - 2) (keeps p) (and_right (leb 2 p) _ t) (d - 2) (omega arith) in
+          let n = all_at (p - 2) (keeps p) (and_r (leb 2 p) _ t) (d - 2) (omega arith) in
           T_not (eqb (p % (d - 2 + 2)) 0) n (rw (s, e) tt);
     }
 
@@ -63,7 +52,7 @@ prime_complete : (p : ℕ) → Prime p → T (prime? p)
 unfolding prime? keeps
 prime_complete p r =
     let l : 2 ≤ p = r.least in
-    and_both (leb 2 p) (all (p - 2) (keeps p)) (le→leb 2 p l)
+    and_i (leb 2 p) (all (p - 2) (keeps p)) (le→leb 2 p l)
     (all_of (p - 2) (keeps p) (λ i h. not_T (eqb (p % (i + 2)) 0) (λ w. r.only (i + 2) (omega arith) (omega arith) (eqb→eq (p % (i + 2)) 0 w))))
 
 -- the number i + 1 above p is no prime
@@ -76,13 +65,13 @@ next? p q = ltb p q && (prime? q && all (q - (p + 1)) (passes p))
 next_sound : (p q : ℕ) → T (next? p q) → NextPrime p q
 unfolding next? passes
 next_sound p q t =
-    let r = and_right (ltb p q) _ t in
+    let r = and_r (ltb p q) _ t in
     record {
-      above = ltb→lt p q (and_left (ltb p q) _ t);
-      prime = prime_sound q (and_left (prime? q) _ r);
+      above = ltb→lt p q (and_l (ltb p q) _ t);
+      prime = prime_sound q (and_l (prime? q) _ r);
       none = λ d g h w.
           let s : p + 1 + (d - (p + 1)) ≡ d = omega arith in
-          let n = all_at (q - (p + 1)) (passes p) (and_right (prime? q) _ r) (d - (p + 1)) (omega arith) in
+          let n = all_at (q - (p + 1)) (passes p) (and_r (prime? q) _ r) (d - (p + 1)) (omega arith) in
           T_not (prime? (p + 1 + (d - (p + 1)))) n (rw s (prime_complete d w));
     }
 
@@ -113,13 +102,13 @@ fraction_sound : (e p k : ℕ) → T (fraction? e p k) → Fraction e p k
 unfolding fraction?
 fraction_sound e p k t =
     let q : ℕ = whole_root e p 18 in
-    let r = and_right (ltb k (2 ^ 32)) _ t in
+    let r = and_r (ltb k (2 ^ 32)) _ t in
     let low = leb ((q * 2 ^ 32 + k) ^ e) (p * (2 ^ 32) ^ e) in
     record {
       whole = q;
-      small = ltb→lt k (2 ^ 32) (and_left (ltb k (2 ^ 32)) _ t);
-      below = leb→le ((q * 2 ^ 32 + k) ^ e) (p * (2 ^ 32) ^ e) (and_left low _ r);
-      above = ltb→lt (p * (2 ^ 32) ^ e) ((q * 2 ^ 32 + k + 1) ^ e) (and_right low _ r);
+      small = ltb→lt k (2 ^ 32) (and_l (ltb k (2 ^ 32)) _ t);
+      below = leb→le ((q * 2 ^ 32 + k) ^ e) (p * (2 ^ 32) ^ e) (and_l low _ r);
+      above = ltb→lt (p * (2 ^ 32) ^ e) ((q * 2 ^ 32 + k + 1) ^ e) (and_r low _ r);
     }
 
 fraction_at : ℕ → List ℕ → ℕ → Bool

@@ -102,16 +102,12 @@ pub hash_front_on : (h a b : List ℕ) → hash_over (hash_over h a) (left_of a 
 unfolding settle
 hash_front_on h a b = ap (λ (d : Hasher). d.words) (settle_front h a b 0)
 
--- where a is whole blocks nothing of it is left: b is hashed, or digested, from its hash value on
+-- where a is whole blocks nothing of it is left: b is hashed from its hash value on
 none_left : (a : List ℕ) → length a % 64 ≡ 0 → drop (64 * (length a / 64)) a ≡ []
 none_left a z = drop_of_length-le a {i = 64 * (length a / 64)} (omega arith)
 
 pub hash_on : (h a b : List ℕ) → length a % 64 ≡ 0 → hash_over (hash_over h a) b ≡ hash_over h (a ++ b)
 hash_on h a b z = ap (λ (x : List ℕ). hash_over (hash_over h a) (x ++ b)) (sym (none_left a z)) ∙ hash_front_on h a b
-
-pub after_whole : (h a b : List ℕ) (n : ℕ) → length a % 64 ≡ 0 → digest_after (hash h a (length a / 64)) b n ≡ digest_after h (a ++ b) n
-after_whole h a b n z =
-    ap (λ (x : List ℕ). digest_after (hash h a (length a / 64)) (x ++ b) n) (sym (none_left a z)) ∙ after_front h a b n
 
 -- the message in one place
 pub digest_law : (m : List ℕ) → digest_after H0 m (length m) ≡ sha256 m

@@ -62,10 +62,11 @@ field n = field_wrap (n * 2 ^ 3 % 2 ^ 64) (8 * n) (omega arith)
 
 module _ (h r : List ℕ) (n : ℕ) (left : length r ≡ n % 64) where
   -- the padding ends the block
-  pub ends_law : {t b s : List ℕ} → length r < 56 → t ≡ marked r → b ≡ take 56 t ++ big_endian 8 (n * 2 ^ 3 % 2 ^ 64) → s ≡ compress h (words b)
+  pub ends_law : {t g b s : List ℕ} → length r < 56 → t ≡ marked r → g ≡ h → b ≡ take 56 t ++ big_endian 8 (n * 2 ^ 3 % 2 ^ 64)
+      → s ≡ compress g (words b)
       → s ≡ hash h (r ++ padding n) (length (r ++ padding n) / 64)
   unfolding padding zeros
-  ends_law {t} {b} lt et eb es =
+  ends_law {t} {b = b} lt et eg eb es =
       let z : ℕ = 55 - length r in
       let m : List ℕ = r ++ 0x80 ∷ [] in
       let e : z ≡ (119 - n % 64) % 64 = omega arith in
@@ -82,19 +83,19 @@ module _ (h r : List ℕ) (n : ℕ) (left : length r ≡ n % 64) where
       ∙ append_assoc r (0x80 ∷ []) (tail z (8 * n)) in
       let l : length (r ++ 0x80 ∷ tail z (8 * n)) ≡ 64 =
       length-append r (0x80 ∷ tail z (8 * n)) ∙ ap (λ (x : ℕ). length r + suc x) (length_tail z (8 * n)) ∙ omega arith in
-      es ∙ ap (λ (x : List ℕ). compress h (words x)) w ∙ sym (one_block h (r ++ 0x80 ∷ tail z (8 * n)) l)
+      es ∙ ap₂ (λ (x y : List ℕ). compress x (words y)) eg w ∙ sym (one_block h (r ++ 0x80 ∷ tail z (8 * n)) l)
       ∙ ap (λ (x : ℕ). hash h (r ++ 0x80 ∷ tail x (8 * n)) (length (r ++ 0x80 ∷ tail x (8 * n)) / 64)) e
 
   -- the padding takes one block more
-  pub more_law : {t a b s : List ℕ} → 56 ≤ length r → t ≡ marked r → a ≡ compress h (words t)
-      → b ≡ take 56 (replicate 64 0) ++ big_endian 8 (n * 2 ^ 3 % 2 ^ 64) → s ≡ compress a (words b)
+  pub more_law : {t z a b s : List ℕ} → 56 ≤ length r → t ≡ marked r → z ≡ replicate 64 0 → a ≡ compress h (words t)
+      → b ≡ take 56 z ++ big_endian 8 (n * 2 ^ 3 % 2 ^ 64) → s ≡ compress a (words b)
       → s ≡ hash h (r ++ padding n) (length (r ++ padding n) / 64)
   unfolding padding zeros
-  more_law {t} {a} {b} ge et ea eb es =
+  more_law {b = b} ge et ez ea eb es =
       let k : ℕ = 63 - length r in
       let m : List ℕ = r ++ 0x80 ∷ [] in
       let e : k + 56 ≡ (119 - n % 64) % 64 = omega arith in
-      let q : b ≡ tail 56 (8 * n) = eb ∙ ap (λ (x : List ℕ). replicate 56 0 ++ x) (field n) in
+      let q : b ≡ tail 56 (8 * n) = eb ∙ ap₂ (λ (x y : List ℕ). take 56 x ++ y) ez (field n) in
       let p : marked r ++ tail 56 (8 * n) ≡ r ++ 0x80 ∷ tail (k + 56) (8 * n) =
       append_assoc m (replicate k 0) (tail 56 (8 * n)) ∙ ap (λ (x : List ℕ). m ++ x) (tail_split k 56 (8 * n))
       ∙ append_assoc r (0x80 ∷ []) (tail (k + 56) (8 * n)) in

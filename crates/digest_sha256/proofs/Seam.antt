@@ -1,24 +1,14 @@
 -- A message that lies in two places, as the code hashes it.
-use Rattle.std.proofs.Common.{◌≡◌, ℕ, ◌+◌, ◌-◌, ◌*◌, ◌/◌, ◌%◌, ◌^◌, ◌<◌, ◌≤◌, List, [], ◌++◌, length, take, drop, replicate, sym, refl, ap, ◌∙◌, ap₂, append_assoc, append-nil, arith, length-append, length-drop, take-append-drop, drop_of_length-le, length-take-le}
+use Rattle.std.proofs.Common.{◌≡◌, ℕ, ◌+◌, ◌-◌, ◌*◌, ◌/◌, ◌%◌, ◌^◌, ◌<◌, ◌≤◌, min, List, [], ◌++◌, length, take, drop, replicate, sym, ap, ◌∙◌, ap₂, append_assoc, append-nil, arith, length-append, length-drop, take-append-drop, drop_of_length-le, length-take-le}
 use native.Mathlib.Decide.{dec_lt}
-use lib.Seq.{paste, take-length, drop-append-le, drop-append-add}
+use lib.Seq.{drop-append-le, drop-append-add}
 use Rattle.digest_fips180.specs.Sha256.{words, padding, H0, compress, hash, bytes, sha256}
 use Rattle.digest_sha256.specs.Parts.{hash_over, left_of, zeroed, digest_after}
-use Rattle.digest_bytes.proofs.Blocks.{drop_zeros, put_law}
-use Rattle.digest_sha256.proofs.Pending.{from}
+use Rattle.digest_sha256.proofs.Pending.{from, laid, laid_is}
 use Rattle.digest_sha256.proofs.Padding.{one_block}
 use Rattle.digest_sha256.proofs.Concatenation.{hash_front_on, hash_on, after_blocks, digest_law, padding_wrap}
 
 -- ---- one block
-
--- two parts laid into zeros, one behind the other
-pub laid : (x y : List ℕ) {p q : List ℕ} → length x + length y ≤ 64 → p ≡ take (length x) x ++ drop (length x) (replicate 64 0)
-    → q ≡ paste p (length x) y (length y) → q ≡ zeroed (x ++ y)
-laid x y {p} h e f =
-    let z : drop {A = ℕ} (length x) (replicate 64 0) ≡ replicate (64 - length x) 0 = drop_zeros 64 (length x) (omega arith) in
-    let g : p ≡ x ++ replicate (64 - length x) 0 = e ∙ ap₂ (λ (a b : List ℕ). a ++ b) (take-length x) z in
-    f ∙ ap (λ (l : List ℕ). paste l (length x) y (length y)) g ∙ put_law x y (length x) refl h
-    ∙ ap (λ (k : ℕ). (x ++ y) ++ replicate (64 - k) 0) (sym (length-append x y))
 
 -- a full block has no zeros behind it
 full : (q : List ℕ) → length q ≡ 64 → zeroed q ≡ q
@@ -40,14 +30,14 @@ module _ (h a b : List ℕ) {s : List ℕ} (hashed : s ≡ hash_over h a) where
 
   -- the block that a begins ends with the first k bytes of b
   pub block_more : (k : ℕ) {f : ℕ} {p g r : List ℕ} → k ≡ 64 - length a % 64 → k ≤ length b → f ≡ length a - length a % 64
-      → p ≡ zeroed (take (length a - f) (drop f a) ++ take k b) → g ≡ compress s (words p)
+      → p ≡ laid (take (length a - f) (drop f a)) (take k b) → g ≡ compress s (words p)
       → r ≡ hash_over g (take (length b - k) (drop k b)) → r ≡ hash_over h (a ++ b)
   block_more k {f} {p} {g} e le ef ep eg er =
       let q : List ℕ = left_of a ++ take k b in
       let l : length q ≡ 64 =
       length-append (left_of a) (take k b) ∙ ap₂ (λ (x y : ℕ). x + y) length_left (length-take-le k b le) ∙ omega arith in
       let i : f ≡ 64 * (length a / 64) = omega arith in
-      let t : p ≡ q = ep ∙ ap (λ (x : List ℕ). zeroed (x ++ take k b)) (from a f ∙ ap (λ (n : ℕ). drop n a) i) ∙ full q l in
+      let t : p ≡ q = ep ∙ laid_is (take (length a - f) (drop f a)) (take k b) ∙ ap (λ (x : List ℕ). zeroed (x ++ take k b)) (from a f ∙ ap (λ (n : ℕ). drop n a) i) ∙ full q l in
       let w : length q % 64 ≡ 0 = omega arith in
       er
       ∙ ap₂ hash_over (eg ∙ ap₂ (λ (x y : List ℕ). compress x (words y)) hashed t ∙ sym (one_block (hash_over h a) q l)) (from b k)
@@ -71,8 +61,16 @@ in_both : (n m r k : ℕ) → r - k ≤ n → k ≤ m → k ≤ r → n - (n - (
 in_both n m r k a b c = omega arith
 
 -- r bytes are left, k of them in b and the others in a
-module _ (a b : List ℕ) (r k : ℕ) (rest : r ≡ (length a + length b) % 64) (some : k ≤ r) (within : k ≤ length b)
-    (all : k < length b → k ≡ r) where
+module _ (a b : List ℕ) (r k : ℕ) (rest : r ≡ (length a + length b) % 64) (fewer : k ≡ min r (length b)) where
+  some : k ≤ r
+  some = omega arith
+
+  within : k ≤ length b
+  within = omega arith
+
+  all : k < length b → k ≡ r
+  all lt = omega arith
+
   pub reach : r - k ≤ length a
   reach = by (dec_lt k (length b))
     where

@@ -32,11 +32,7 @@ fn million() -> [u8; 32] {
 
 // Byte i of the pattern is (7 i + 3) modulo 256.
 fn pattern() -> [u8; 200] {
-    let mut p = [0u8; 200];
-    for i in 0..200 {
-        p[i] = ((7 * i + 3) % 256) as u8;
-    }
-    p
+    std::array::from_fn(|i| ((7 * i + 3) % 256) as u8)
 }
 
 // A line for each length from 0 to 200.

@@ -5,7 +5,7 @@
 use digest_sha256::Hasher;
 use header_reader::Header;
 use numbers::{CommandRefusal, PowerUpRefusal, RefusedInside, TurnDownReason};
-use power_up::Outcome;
+use power_up::{Outcome, PowerUpAnswer};
 use std::io;
 
 const SECTORS: usize = 3;
@@ -16,14 +16,6 @@ const PARTITION: usize = 768;
 
 fn print(rt: &impl Print, text: &str) -> io::Result<()> {
     rt.print(text)
-}
-
-fn print_number(rt: &impl Print, label: &str, n: u64) -> io::Result<()> {
-    print!(rt; "{label}{n}")
-}
-
-fn print_byte(rt: &impl Print, label: &str, b: u8) -> io::Result<()> {
-    print!(rt; "{label}{b:02x}")
 }
 
 // ---- the flash
@@ -72,10 +64,9 @@ fn partition_of(version: u8, status: u8) -> [u8; PARTITION] {
 
 // A refusal by its number, with the own number and place of a bad image within it.
 fn print_refused(rt: &impl Print, r: RefusedInside) -> io::Result<()> {
-    print_number(rt, "refused ", r.number as u64)?;
+    print!(rt; "refused {}", r.number)?;
     if r.inner != 0 {
-        print_number(rt, " for ", r.inner as u64)?;
-        print_number(rt, " at ", r.place as u64)?;
+        print!(rt; " for {} at {}", r.inner, r.place)?;
     }
     Ok(())
 }
@@ -90,42 +81,18 @@ fn print_outcome(rt: &impl Print, outcome: Result<Outcome, PowerUpRefusal>) -> i
     }
 }
 
-fn print_reason(rt: &impl Print, r: Option<TurnDownReason>) -> io::Result<()> {
-    let why = numbers::of_reason(r);
-    if why.number != 0 {
-        print_number(rt, ", turned down with ", why.number as u64)?;
-        print_number(rt, " at ", why.place as u64)?;
+fn print_reason(rt: &impl Print, reason: Option<TurnDownReason>) -> io::Result<()> {
+    if reason.is_some() {
+        let why = numbers::of_reason(reason);
+        print!(rt; ", turned down with {} at {}", why.number, why.place)?;
     }
     Ok(())
 }
 
-fn print_answer(
-    rt: &impl Print,
-    outcome: Result<Outcome, PowerUpRefusal>,
-    count: u64,
-    reason: Option<TurnDownReason>,
-) -> io::Result<()> {
-    print_outcome(rt, outcome)?;
-    print_number(rt, " with ", count)?;
-    print_reason(rt, reason)
-}
-
-fn print_trailers(
-    rt: &impl Print,
-    boot: [u8; PARTITION],
-    update: [u8; PARTITION],
-) -> io::Result<()> {
-    print_byte(rt, "; boot ", boot[767])?;
-    print_byte(rt, " update ", update[767])?;
-    print_byte(rt, " flags ", update[766])
-}
-
-fn print_four(rt: &impl Print, digest: [u8; 32]) -> io::Result<()> {
-    print_byte(rt, " bytes ", digest[0])?;
-    print_byte(rt, "", digest[1])?;
-    print_byte(rt, "", digest[2])?;
-    print_byte(rt, "", digest[3])?;
-    print(rt, "\n")
+fn print_answer(rt: &impl Print, answer: PowerUpAnswer) -> io::Result<()> {
+    print_outcome(rt, answer.outcome)?;
+    print!(rt; " with {}", answer.count)?;
+    print_reason(rt, answer.reason)
 }
 
 // The status bytes, the flag byte, and the first bytes of the digest of the whole flash.
@@ -135,13 +102,19 @@ fn print_flash(
     update: [u8; PARTITION],
     swap: [u8; SIZE],
 ) -> io::Result<()> {
-    print_trailers(rt, boot, update)?;
-    let all = Hasher::new()
+    print!(rt;
+        "; boot {:02x} update {:02x} flags {:02x}",
+        boot[767], update[767], update[766]
+    )?;
+    let digest = Hasher::new()
         .absorb(&boot)
         .absorb(&update)
         .absorb(&swap)
         .finish();
-    print_four(rt, all)
+    println!(rt;
+        " bytes {:02x}{:02x}{:02x}{:02x}",
+        digest[0], digest[1], digest[2], digest[3]
+    )
 }
 
 // ---- the runs
@@ -154,10 +127,11 @@ fn power(
     swap: &mut [u8],
     budget: u64,
 ) -> io::Result<()> {
-    print_number(rt, "", budget)?;
-    print(rt, " ")?;
-    let x = power_up::power_up(SECTORS, SIZE, boot, update, swap, budget);
-    print_answer(rt, x.outcome, x.count, x.reason)
+    print!(rt; "{budget} ")?;
+    print_answer(
+        rt,
+        power_up::power_up(SECTORS, SIZE, boot, update, swap, budget),
+    )
 }
 
 // Two power-ups, one after the other.
@@ -237,8 +211,7 @@ fn few(
     boot: [u8; PARTITION],
     update: [u8; PARTITION],
 ) -> io::Result<()> {
-    print(rt, label)?;
-    print(rt, "\n")?;
+    println!(rt; "{label}")?;
     let swap = [0x5Au8; SIZE];
     one(rt, boot, update, swap, 0)?;
     one(rt, boot, update, swap, 1)?;
@@ -348,8 +321,8 @@ fn fallbacks(rt: &impl Print) -> io::Result<()> {
 
 fn print_command(rt: &impl Print, answer: Result<u64, CommandRefusal>) -> io::Result<()> {
     match answer {
-        Ok(n) => print_number(rt, "done with ", n),
-        Err(refusal) => print_number(rt, "refused ", u64::from(u32::from(refusal))),
+        Ok(count) => print!(rt; "done with {count}"),
+        Err(refusal) => print!(rt; "refused {}", u32::from(refusal)),
     }
 }
 
@@ -387,8 +360,7 @@ fn both(
 ) -> io::Result<()> {
     let boot = partition_of(7, boot_status);
     let update = with_byte(partition_of(8, update_status), 766, flags);
-    print(rt, label)?;
-    print(rt, "\n")?;
+    println!(rt; "{label}")?;
     arm(rt, boot, update)?;
     confirm(rt, boot, update)
 }

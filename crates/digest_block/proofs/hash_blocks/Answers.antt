@@ -1,12 +1,16 @@
-use mathlib.Core.Path.{refl}
-use native.Mathlib.Omega.{arith}
-use Rattle.digest_fips180.specs.Sha256.{hash}
-use Rattle.digest_block.proofs.Steps.{hash_more}
+use Rattle.std.proofs.Common.{rules, [], ◌∷◌, ◌∙◌, arith, length-append}
+use Rattle.digest_block.proofs.Steps.{hashed_none, hashed_more, hashed_all}
 use Rattle.digest_block.proofs.hash_blocks.Goals as goal
 
-pub loop-i-init : goal.loop-i-init
-unfolding hash
-loop-i-init c = (omega arith, refl)
+pub loop-block-init : goal.loop-block-init
+loop-block-init c = (hashed_none c.args.h c.args.m.now (search rules), search rules)
 
-pub loop-i-preserved : goal.loop-i-preserved
-loop-i-preserved c = (omega arith, hash_more _ _ _ c.loop-i.invariant.1 c.compress_block-x.ensures)
+pub loop-block-preserved : goal.loop-block-preserved
+loop-block-preserved c =
+    let l = c.loop-block in
+    let step = c.in-Some.ensures.steps in
+    let size = l.invariant.1 in
+    (hashed_more _ _ l.invariant.0 (length-append l.yielded (c.in-Some.block ∷ [])) step.1.0 (step.1.1 ∙ size) c.compress_block-next.ensures, step.0 ∙ size)
+
+pub returns : goal.returns
+returns c = let step = c.in-None.ensures.steps in hashed_all c.loop-block.invariant.0 (omega arith)

@@ -5,4 +5,4 @@ use Rattle.digest_rounds.proofs.small_sigma1.Goals as goal
 
 pub returns : goal.returns
 unfolding σ₁
-returns c = ap (λ (r : ℕ). r ⊕ SHR 10 c.args.x) (two_rotations c.args.x 17 2 13 refl (search rules) c.rotr.ensures c.rotr-2.ensures)
+returns c = ap (λ (r : ℕ). r ⊕ SHR 10 c.args.x) (two_rotations c.args.x 17 2 13 refl (search rules) c.rotate_right.ensures c.rotate_right-2.ensures)

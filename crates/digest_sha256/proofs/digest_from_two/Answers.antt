@@ -4,6 +4,4 @@ use Rattle.digest_sha256.proofs.digest_from_two.Goals as goal
 pub returns : goal.returns
 returns c =
     let a = c.args in
-    let k = c.least-k in
-    ends_both a.a.now a.b.now _ k.result (left_over _ _) k.ensures.0 k.ensures.1 k.ensures.2 a.h a.count
-    c.hash_of_two.ensures c.digest_after.ensures
+    ends_both a.a.now a.b.now _ c.min-k.result (left_over _ _) c.min-k.ensures a.h a.count c.hash_of_two.ensures c.digest_after.ensures

@@ -8,4 +8,4 @@ unfolding H0
 returns c =
     let a = c.args in
     c.digest_from_two.ensures
-    ∙ wrapped (a.a.now ++ a.b.now) _ (c.wrapping_add_u64-count.ensures.value ∙ ap (λ (n : ℕ). n % 2 ^ 64) (sym (length-append a.a.now a.b.now)))
+    ∙ wrapped (a.a.now ++ a.b.now) _ (ap (λ (n : ℕ). n % 2 ^ 64) (sym (length-append a.a.now a.b.now)))

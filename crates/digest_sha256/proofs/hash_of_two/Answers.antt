@@ -11,4 +11,4 @@ pub returns : goal.returns
 returns c =
     let a = c.args in
     block_more a.h a.a.now a.b.now c.hash_blocks-s.ensures (64 - length a.a.now % 64) refl (omega arith) refl
-    c.lay_two.ensures c.compress_block.ensures c.hash_blocks.ensures
+    c.lay.ensures c.compress_block.ensures c.hash_blocks.ensures
