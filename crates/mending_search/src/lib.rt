@@ -109,19 +109,18 @@ fn search_behind<'a>(flash: &'a FlashRef<'a>, u: Claim, b: Claim) -> Option<Mark
         claim: b,
     };
     let m = flash.geometry.firmware_sectors();
-    let start = LEGS - 1;
-    let mut d = hash_on(&update, start, H0);
-    let mut e = hash_on(&boot, start, H0);
-    for moves in LEGS..=LEGS * m {
-        let mark = mark_after(m, moves);
-        let i = SectorNumber(moves / LEGS);
-        if update.has_digest(mark, i, d) && boot.has_digest(mark, i, e) {
-            return Some(mark);
-        }
+    let mut d = H0;
+    let mut e = H0;
+    for moves in LEGS - 1..LEGS * m {
         let x = hash_on(&update, moves, d);
         d = x;
         let y = hash_on(&boot, moves, e);
         e = y;
+        let mark = mark_after(m, moves + 1);
+        let i = SectorNumber((moves + 1) / LEGS);
+        if update.has_digest(mark, i, d) && boot.has_digest(mark, i, e) {
+            return Some(mark);
+        }
     }
     None
 }

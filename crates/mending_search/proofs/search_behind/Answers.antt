@@ -5,7 +5,6 @@ use native.Mathlib.Omega.{arith}
 use Rattle.std.specs.Prelude.{Some}
 use Rattle.digest_fips180.specs.Sha256.{H0}
 use Rattle.flash.specs.Sizes.{firmware}
-use Rattle.flash.proofs.Checked.{some_firmware}
 use Rattle.image.specs.Verdict.{check_of}
 use Rattle.mending.specs.declared.Mark.TheVariants.{All0}
 use Rattle.mending.specs.declared.OldImage.TheVariants.{Boot, Update}
@@ -19,28 +18,27 @@ use Rattle.mending_search.proofs.Behind.{fits_behind, hash_there}
 use Rattle.mending_search.proofs.search_behind.Goals.{else-has_digest-via-then-has_digest+else-has_digest-2, else-has_digest-via-else-has_digest}
 use Rattle.mending_search.proofs.search_behind.Goals as goal
 
+pub loop-moves-init : goal.loop-moves-init
+unfolding H0
+loop-moves-init c =
+    let a = c.args in
+    let g = a.flash.now.geometry in
+    let f = lent_flash a.flash.now in
+    (none_hashed g f Update All0 a.u, none_hashed g f Boot All0 a.b, refl)
+
 pub invariant_of-update : goal.invariant_of-update
 invariant_of-update c =
     let a = c.args in record { lies = (claims_lie a.flash.now.geometry All0 (lent_flash a.flash.now) a.u a.b c.requires).0 }
-
-pub hash_on-d-requires : goal.hash_on-d-requires
-unfolding H0
-hash_on-d-requires c =
-    let f = c.args.flash.now in
-    (omega (arith, some_firmware f.geometry f.shaped.limits), none_hashed f.geometry (lent_flash f) Update All0 c.args.u)
 
 pub invariant_of-boot : goal.invariant_of-boot
 invariant_of-boot c =
     let a = c.args in record { lies = (claims_lie a.flash.now.geometry All0 (lent_flash a.flash.now) a.u a.b c.requires).1 }
 
-pub hash_on-e-requires : goal.hash_on-e-requires
-unfolding H0
-hash_on-e-requires c =
-    let f = c.args.flash.now in
-    (omega (arith, some_firmware f.geometry f.shaped.limits), none_hashed f.geometry (lent_flash f) Boot All0 c.args.b)
+pub hash_on-x-requires : goal.hash_on-x-requires
+hash_on-x-requires c = (omega (arith, c.loop-moves-test.true, c.firmware_sectors-m.ensures), c.loop-moves.invariant.0)
 
-pub loop-moves-init : goal.loop-moves-init
-loop-moves-init c = (c.hash_on-d.ensures, c.hash_on-e.ensures, refl)
+pub hash_on-y-requires : goal.hash_on-y-requires
+hash_on-y-requires c = (omega (arith, c.loop-moves-test.true, c.firmware_sectors-m.ensures), c.loop-moves.invariant.1)
 
 pub has_digest-requires : goal.has_digest-requires
 has_digest-requires c =
@@ -48,10 +46,10 @@ has_digest-requires c =
     let g = a.flash.now.geometry in
     let f = lent_flash a.flash.now in
     let n = c.firmware_sectors-m in
-    let moves = c.loop-moves.moves in
+    let moves = c.loop-moves.moves + 1 in
     let k = c.mark_after-mark.result in
     let w = of_sectors n.result (firmware g) moves k n.ensures c.mark_after-mark.ensures in
-    (omega (arith, c.loop-moves-test.true, c.loop-moves.auto.moves-end, n.ensures), c.loop-moves.invariant.0 ∙ hash_there g f Update k a.u moves w.0 w.1)
+    (omega (arith, c.loop-moves-test.true, n.ensures), c.hash_on-x.ensures ∙ hash_there g f Update k a.u moves w.0 w.1)
 
 pub has_digest-requires-then-has_digest : goal.has_digest-requires-then-has_digest
 has_digest-requires-then-has_digest c =
@@ -59,10 +57,10 @@ has_digest-requires-then-has_digest c =
     let g = a.flash.now.geometry in
     let f = lent_flash a.flash.now in
     let n = c.firmware_sectors-m in
-    let moves = c.loop-moves.moves in
+    let moves = c.loop-moves.moves + 1 in
     let k = c.mark_after-mark.result in
     let w = of_sectors n.result (firmware g) moves k n.ensures c.mark_after-mark.ensures in
-    (omega (arith, c.loop-moves-test.true, c.loop-moves.auto.moves-end, n.ensures), c.loop-moves.invariant.1 ∙ hash_there g f Boot k a.b moves w.0 w.1)
+    (omega (arith, c.loop-moves-test.true, n.ensures), c.hash_on-y.ensures ∙ hash_there g f Boot k a.b moves w.0 w.1)
 
 pub returns-then-has_digest-2 : goal.returns-then-has_digest-2
 returns-then-has_digest-2 c =
@@ -70,7 +68,7 @@ returns-then-has_digest-2 c =
     let g = a.flash.now.geometry in
     let f = lent_flash a.flash.now in
     let n = c.firmware_sectors-m in
-    let moves = c.loop-moves.moves in
+    let moves = c.loop-moves.moves + 1 in
     let k = c.mark_after-mark.result in
     let w = of_sectors n.result (firmware g) moves k n.ensures c.mark_after-mark.ensures in
     fits_here (fits_mark check_of g f) (firmware g) moves k w.0 w.1
@@ -84,7 +82,7 @@ loop-moves-preserved c =
     let g = a.flash.now.geometry in
     let f = lent_flash a.flash.now in
     let n = c.firmware_sectors-m in
-    let moves = c.loop-moves.moves in
+    let moves = c.loop-moves.moves + 1 in
     let k = c.mark_after-mark.result in
     let w = of_sectors n.result (firmware g) moves k n.ensures c.mark_after-mark.ensures in
     let no : fits_by g k f (Some (a.u, a.b)) ≡ false = elim c.else-has_digest.branch [
@@ -99,21 +97,10 @@ loop-moves-preserved c =
           ∙ c.loop-moves.invariant.2,
     )
 
-pub returns-else-has_digest : goal.returns-else-has_digest
-returns-else-has_digest c =
+pub returns : goal.returns
+returns c =
     let a = c.args in
     let g = a.flash.now.geometry in
     let f = lent_flash a.flash.now in
-    let n = c.firmware_sectors-m in
-    let moves = c.loop-moves.moves in
-    let k = c.mark_after-mark.result in
-    let w = of_sectors n.result (firmware g) moves k n.ensures c.mark_after-mark.ensures in
-    let no : fits_by g k f (Some (a.u, a.b)) ≡ false = elim c.else-has_digest.branch [
-      | else-has_digest-via-then-has_digest+else-has_digest-2 w ↦ ap₂ (λ (x y : Bool). x && y) (sym c.has_digest.ensures ∙ w.if-has_digest.true)
-          (sym w.has_digest-then-has_digest.ensures ∙ w.if-has_digest-2.false)
-      | else-has_digest-via-else-has_digest w ↦ ap (λ (x : Bool). x && has_digest (old_bytes g Boot k f) a.b) (sym c.has_digest.ensures ∙ w.if-has_digest.false)
-    ] in
-    none_left (fits_mark check_of g f) (firmware g) (moves + 1) (omega (arith, n.ensures))
-    ∙ not_here (fits_mark check_of g f) (firmware g) moves k w.0 w.1
-    (sym (fits_behind g f a.flash.now.shaped k (Some (a.u, a.b)) w.0 (omega (arith, c.loop-moves.auto.moves, w.1)) (sym c.requires)) ∙ no)
+    none_left (fits_mark check_of g f) (firmware g) (c.loop-moves.moves + 1) (omega (arith, c.loop-moves-test.false, c.firmware_sectors-m.ensures))
     ∙ c.loop-moves.invariant.2
