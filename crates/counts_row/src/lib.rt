@@ -48,7 +48,7 @@ fn some_above(row: &[u32], limit: u32) -> bool
 }
 
 // The row's length; then its sum; then that each count has room for m erases.
-fn check_row(g: Geometry, row: &[u32], total: u64) -> Result<(), CountsFault>
+pub fn check_row(g: Geometry, row: &[u32], total: u64) -> Result<(), CountsFault>
     requires { Limits g }
     ensures { counts_answer result ≡ check_row g row.now total }
 {
