@@ -14,7 +14,7 @@ use Rattle.mending.specs.Marks.{marks}
 use Rattle.mending.specs.OldImages.{fits_mark}
 use Rattle.mending.specs.Mending.{first_fitting, may_mend, Mend, with_mark}
 
--- what a check or a search answers: a refusal is at no place
+-- what the checks before the marks answer; a refusal is at no place
 abbrev pub code_answer : {A : Type 0} → Result A MendRefusal → Answer A
 code_answer (Ok a) = gives a
 code_answer (Err r) = refused (mend_number r) 0
