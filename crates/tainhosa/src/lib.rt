@@ -61,11 +61,7 @@ pub extern "C" fn tainhosa_sha256(message: &[u8], digest: &mut [u8]) -> u32
 }
 
 // What a reader says, into the caller's buffers: a header's values, or the place of a refusal beside blank values.
-fn give<E: Numbered + Copy>(
-    numbers: &mut [u64],
-    bytes: &mut [u8],
-    read: Result<Header, E>,
-) -> u32
+fn give<E: Numbered + Copy>(numbers: &mut [u64], bytes: &mut [u8], read: Result<Header, E>) -> u32
     ensures { after_header result numbers.new bytes.new
         ≡ laid_out (answer_by E.says read) numbers.old bytes.old }
 {
@@ -312,7 +308,7 @@ pub extern "C" fn tainhosa_arm(
         return WRONG_LENGTH;
     }
     let a = exchange_commands::arm(sectors, size, boot, update, swap);
-    count[0] = c_power_up::count_of(a);
+    count.copy_from_slice(&[c_power_up::count_of(a)]);
     c_power_up::of_command(a)
 }
 
@@ -333,7 +329,7 @@ pub extern "C" fn tainhosa_confirm(
         return WRONG_LENGTH;
     }
     let a = exchange_commands::confirm(sectors, size, boot, update, swap);
-    count[0] = c_power_up::count_of(a);
+    count.copy_from_slice(&[c_power_up::count_of(a)]);
     c_power_up::of_command(a)
 }
 

@@ -1,2 +1,0 @@
--- Laws of the answers that a C caller gets.
-pub mod Answers
