@@ -110,7 +110,7 @@ fn carry_out(
         Err(refusal) => power_up::idle(Err(refusal)),
         Ok(Plan::Plain) => {
             let boot = &mut *f.boot;
-            power_up::idle(power_up::if_boot_good(f.geometry, Outcome::Run, boot))
+            power_up::idle(power_up::if_boot_good(f.geometry, Ok(Outcome::Run), boot))
         }
         Ok(Plan::Work(job, reason)) => do_job(f, job, reason, budget, row),
     }

@@ -53,12 +53,16 @@ pub fn idle(outcome: Result<Outcome, PowerUpRefusal>) -> PowerUpAnswer
 }
 
 // The outcome, or the refusal of a bad image in BOOT.
-pub fn if_boot_good(g: Geometry, outcome: Outcome, boot: &[u8]) -> Result<Outcome, PowerUpRefusal>
+pub fn if_boot_good(
+    g: Geometry,
+    outcome: Result<Outcome, PowerUpRefusal>,
+    boot: &[u8],
+) -> Result<Outcome, PowerUpRefusal>
     requires { Partition g boot.now }
-    ensures { outcome_of result ≡ if_boot_good (outcome_of (Ok outcome)) (check_of g boot.now) }
+    ensures { outcome_of result ≡ if_boot_good (outcome_of outcome) (check_of g boot.now) }
 {
     match image::judge_partition(g, boot) {
-        Ok(_) => Ok(outcome),
+        Ok(_) => outcome,
         Err(refusal) => Err(PowerUpRefusal::BadBoot(refusal)),
     }
 }
@@ -88,7 +92,7 @@ pub fn outcome_at(
 {
     match exchange_front::find_next(g, job, at, boot, update) {
         Some(_) => Ok(Outcome::Cut),
-        None => if_boot_good(g, done_outcome(job), boot),
+        None => if_boot_good(g, Ok(done_outcome(job)), boot),
     }
 }
 
@@ -121,7 +125,7 @@ fn carry_out(f: &mut FlashMut, plan: Result<Plan, PowerUpRefusal>, budget: u64) 
         Err(refusal) => idle(Err(refusal)),
         Ok(Plan::Plain) => {
             let boot = &mut *f.boot;
-            idle(if_boot_good(f.geometry, Outcome::Run, boot))
+            idle(if_boot_good(f.geometry, Ok(Outcome::Run), boot))
         }
         Ok(Plan::Work(job, reason)) => do_job(f, job, reason, budget),
     }
