@@ -11,6 +11,7 @@ use numbers::{CommandRefusal, PowerUpRefusal, RefusedInside};
 use power_up::Outcome;
 
 // How a power-up ended: its outcome, and of a refusal the number, and the own number and place of a bad image within it.
+// Numbers, not enums: a C caller gets them.
 #[derive(Clone, Copy)]
 pub struct Ended {
     pub outcome: u64,

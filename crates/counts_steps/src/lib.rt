@@ -18,6 +18,7 @@ use exchange_front::Progress;
 use exchange_steps::{FlashMut, StepAnswer};
 
 // The single step, and its erase counted. The counted power-up changes the flash and the row by this function alone.
+// Beside the step without a row, which it calls, not one form of both: the flash's part is said once, in `Steps`.
 pub fn do_next_counted(f: &mut FlashMut, job: Job, at: Progress, row: &mut [u32]) -> StepAnswer
     requires { (Shaped f.old.geometry (bytes f.old)) × (at.front.0 ≤ firmware f.old.geometry) × (0 < at.left)
         × (length row.old ≡ row_length f.old.geometry)
@@ -44,6 +45,7 @@ pub fn repeat_counted(f: &mut FlashMut, job: Job, budget: u64, row: &mut [u32]) 
 {
     let update = &mut *f.update;
     let mut at = exchange_front::begin(f.geometry, update, budget);
+    // Not a `for`, as in `repeat_step`.
     while 0 < at.left {
         let step = do_next_counted(f, job, at, row);
         if step.done.is_none() {

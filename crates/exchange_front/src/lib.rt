@@ -16,6 +16,7 @@ use flash_flags::Flag;
 #[derive(Clone, Copy)]
 pub struct Progress {
     pub front: SectorNumber,
+    // A number, not an enum: the rules (exchange/run) and FrontFollows speak of every number as a phase.
     pub phase: u8,
     pub left: u64,
 }

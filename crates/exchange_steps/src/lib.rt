@@ -117,6 +117,7 @@ impl<'b, 'u, 's> FlashMut<'b, 'u, 's> {
     {
         let update = &mut *self.update;
         let mut at = exchange_front::begin(self.geometry, update, budget);
+        // Not a `for`: what falls is the budget that a step hands on, and no index is counted.
         while 0 < at.left {
             let step = self.do_next(job, at);
             if step.done.is_none() {

@@ -16,6 +16,7 @@ pub struct ByteOffset(pub usize);
 
 // A partition has `sectors` sectors of `size` bytes, document 01's n and S. The last is its trailer sector: it holds the status byte
 // and, in UPDATE, the sector flags. The others are its firmware sectors.
+// No invariant holds the limits: the definitions speak of a geometry of any two numbers (flash/geometry_of, exchange/arm_command).
 #[derive(Clone, Copy)]
 pub struct Geometry {
     pub sectors: usize,

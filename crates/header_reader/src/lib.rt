@@ -22,6 +22,7 @@ pub struct Header {
     pub digest: [u8; 32],
     pub signature: [u8; 64],
     pub auth_type: u16,
+    // A flag beside the bytes, not an Option: the writer takes `false` beside any 32 bytes (header_writer/hint_fields), and C hands both.
     pub has_hint: bool,
     // Zeros where there is no hint.
     pub hint: [u8; 32],
@@ -103,6 +104,7 @@ pub fn copy_bytes<const N: usize>(h: &[u8], at: usize) -> [u8; N]
 }
 
 // The number of two, four and eight bytes at a place, low byte first.
+// Three of one line each: one for all would need a trait for that line.
 fn read_u16(h: &[u8], at: usize) -> u16
     requires { at + 2 ≤ length h.now }
     ensures { result ≡ number (bytes_at h.now at 2) }
@@ -136,6 +138,7 @@ fn read_hint(h: &[u8], place: usize) -> [u8; 32]
 }
 
 // The values of the tags at the places of the table's rows.
+// The fact stays a `requires`: as a ghost field of the places it would need a word for their list in every equation with `tag_places`.
 fn read_values(h: &[u8], places: [usize; ROWS]) -> Header
     requires { TagsFit document_table places (length h.now) }
     ensures { result ≡ values_at h.now places }

@@ -1,4 +1,5 @@
 // Lines of text: a header's fields by name, and the line of a refusal.
+// Digits by `io::decimal` and runs by `put`, not `write!`: that promises its text only where it succeeds, and a listing always does.
 #![tactic(auto)]
 
 ghost use Rattle.std.specs.Prelude.{◌+◌, ◌≤◌, length};

@@ -44,6 +44,7 @@ fn is_hint(s: &[u8]) -> bool
 }
 
 // Whether a value passes its row's test.
+// A switch, not a table of closures: it is said row by row in `well_formed`.
 fn is_value(row: usize, s: &[u8]) -> bool
     ensures { result ≡ well_formed row s.now }
 {
@@ -65,6 +66,7 @@ fn place_of(text: &[u8], b: u8) -> Option<usize>
 }
 
 // The first place of b from a place of the text on, or the text's length.
+// The length, not an Option: the callers want a line's end, which at the last line is the text's.
 pub fn find(text: &[u8], from: usize, b: u8) -> usize
     requires { from ≤ length text.now }
     ensures place { result ≡ from + index_of b (drop from text.now) }

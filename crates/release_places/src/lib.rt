@@ -13,9 +13,11 @@ const TYPES: [usize; ROWS] = [0x0001, 0x0002, 0x0020, 0x0030, 0x1000];
 pub fn find_values(text: &[u8]) -> Result<[usize; ROWS], SheetRefusal>
     ensures { Finds text.now result }
 {
+    // 0 for a row that was not seen, not an Option: the rule `values_at` speaks of 0.
     let mut places = [0usize; ROWS];
     let mut at: usize = 0;
     let mut number: usize = 1;
+    // Not a `for`: it moves by whole lines and needs their places, which `split` does not give.
     while at < text.len() {
         let end = release_lines::find(text, at, b'\n');
         if let Some(value) = release_lines::read_line(&text[at..end], number)? {

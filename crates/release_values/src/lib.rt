@@ -13,6 +13,7 @@ pub struct Stated {
     pub timestamp: u64,
     pub auth_type: u16,
     pub signature: [u8; 64],
+    // A flag beside the bytes, not an Option: the maker takes `false` beside any 32 bytes (release_header/header_with), and C hands both.
     pub has_hint: bool,
     // Zeros where there is no hint.
     pub hint: [u8; 32],
