@@ -65,7 +65,6 @@ fn with_total(a: PowerUpAnswer, total: u64) -> CountedAnswer
     }
 }
 
-// Beside power-up's own, and `carry_out` too: one form of both would take the row and its laws through the power-up that has none.
 fn do_job(
     f: &mut FlashMut,
     job: Job,

@@ -18,7 +18,6 @@ use exchange_front::Progress;
 use exchange_steps::{FlashMut, StepAnswer};
 
 // The single step, and its erase counted. The counted power-up changes the flash and the row by this function alone.
-// Beside the step without a row, which it calls, not one form of both: the flash's part is said once, in `Steps`.
 pub fn do_next_counted(f: &mut FlashMut, job: Job, at: Progress, row: &mut [u32]) -> StepAnswer
     requires { (Shaped f.old.geometry (bytes f.old)) × (at.front.0 ≤ firmware f.old.geometry) × (0 < at.left)
         × (length row.old ≡ row_length f.old.geometry)

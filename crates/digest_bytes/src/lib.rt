@@ -26,7 +26,6 @@ pub fn words_to_bytes(h: [u32; 8]) -> [u8; 32]
     ensures { result ≡ fips.bytes h }
 {
     let mut r = [0; 32];
-    // By index: behind `chunks_exact_mut` the check knows nothing of the bytes.
     for i in 0..8 {
         r[4 * i..4 * i + 4].copy_from_slice(&h[i].to_be_bytes());
     }

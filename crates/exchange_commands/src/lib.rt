@@ -70,7 +70,6 @@ pub fn decide(
     let (b, u) = flash_status::read_statuses(g, boot, update).ok_or(
         CommandRefusal::StatusNotAllowed,
     )?;
-    // A switch, not closures: the two kinds are the rules' own (exchange_commands/may_do).
     match kind {
         CommandKind::Arm => permit_arm(b, u),
         CommandKind::Confirm => permit_confirm(g, b, u, update),

@@ -1,6 +1,4 @@
 // The sector flags of document 01, in the trailer sector of UPDATE.
-// Geometry and partition go as two arguments, with the fact that they fit: half of the functions write, and no ghost field stands
-// beside a `&mut`.
 #![tactic(auto)]
 
 ghost use Rattle.std.specs.Prelude.{◌≡◌, ◌-◌, ◌≤◌, ◌<◌};
@@ -140,7 +138,6 @@ impl Leg {
 
 // What the flags of the firmware sectors show: not well formed; all F; the first sector whose flag is not 0 with its leg, 0 before it
 // and F after it; all 0.
-// Four states and not an Option of three: each caller has its own answer to each, to the malformed one too.
 #[derive(Clone, Copy)]
 pub enum Flags {
     Malformed,

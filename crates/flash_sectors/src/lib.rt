@@ -1,6 +1,4 @@
 // Sectors: erase and copy, of a lent sector and of a sector by its number; the firmware sectors of a partition.
-// Geometry and partition go as two arguments, with the fact that they fit: half of the functions write, and no ghost field stands
-// beside a `&mut`.
 #![tactic(auto)]
 
 ghost use Rattle.std.specs.Prelude.{◌≡◌, ◌<◌, length};

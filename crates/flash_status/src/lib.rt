@@ -1,6 +1,4 @@
 // The status bytes of BOOT and UPDATE, each the last byte of its partition.
-// Geometry and partition go as two arguments, with the fact that they fit: half of the functions write, and no ghost field stands
-// beside a `&mut`.
 #![tactic(auto)]
 
 ghost use Rattle.std.specs.Prelude.{◌≡◌, ℕ};

@@ -50,7 +50,6 @@ pub fn find_places(h: &[u8], table: TagTable) -> Result<[usize; ROWS], HeaderRef
     ensures { header_answer result ≡ places_in (table_of table) h.now }
 {
     let TagTable { rows, required } = table;
-    // 0 for a row that was not seen, not an Option: the rule `judge` and the laws on places speak of 0.
     let mut places = [0usize; ROWS];
     let mut at = header_tags::FIRST_TAG;
     while let Some(tag) = header_tags::read_tag(h, at)? {

@@ -138,7 +138,6 @@ fn read_hint(h: &[u8], place: usize) -> [u8; 32]
 }
 
 // The values of the tags at the places of the table's rows.
-// The fact stays a `requires`: as a ghost field of the places it would need a word for their list in every equation with `tag_places`.
 fn read_values(h: &[u8], places: [usize; ROWS]) -> Header
     requires { TagsFit document_table places (length h.now) }
     ensures { result ≡ values_at h.now places }

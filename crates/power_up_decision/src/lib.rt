@@ -1,5 +1,4 @@
 // The checks before a power-up's work, and what they decide.
-// Geometry, BOOT and UPDATE go as in `flash_status` and `flash_flags`, which read them.
 #![tactic(auto)]
 
 ghost use Rattle.std.specs.Prelude.{◌≡◌};

@@ -56,7 +56,6 @@ pub fn put_hex(s: &[u8], out: &mut [u8])
     requires { (length s.now ≡ 2 * length out.old) × (all_hex s.now ≡ true) }
     ensures { out.new ≡ hex_bytes s.now }
 {
-    // By index: `chunks` with `enumerate` would still index `out`.
     for i in 0..out.len() {
         let high = hex_digit(s[2 * i]).unwrap();
         let low = hex_digit(s[2 * i + 1]).unwrap();

@@ -44,7 +44,6 @@ fn is_hint(s: &[u8]) -> bool
 }
 
 // Whether a value passes its row's test.
-// A switch, not a table of closures: it is said row by row in `well_formed`.
 fn is_value(row: usize, s: &[u8]) -> bool
     ensures { result ≡ well_formed row s.now }
 {

@@ -13,7 +13,6 @@ const TYPES: [usize; ROWS] = [0x0001, 0x0002, 0x0020, 0x0030, 0x1000];
 pub fn find_values(text: &[u8]) -> Result<[usize; ROWS], SheetRefusal>
     ensures { Finds text.now result }
 {
-    // 0 for a row that was not seen, not an Option: the rule `values_at` speaks of 0.
     let mut places = [0usize; ROWS];
     let mut at: usize = 0;
     let mut number: usize = 1;
