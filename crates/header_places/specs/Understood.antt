@@ -1,12 +1,13 @@
 -- Document 02, "Tags that must be understood": which tags are refused for their type, and in which order. Each statement is proved in
 -- proofs/.
-use Rattle.std.specs.Prelude.{◌≡◌, ◌⊎◌, ◌↔◌, ℕ, ◌≤◌, ◌<◌, List, [], ◌∷◌, ◌++◌, length, get_or, set, replicate}
+use Rattle.std.specs.Prelude.{◌≡◌, ◌⊎◌, ◌↔◌, ℕ, ◌≤◌, ◌<◌, List, [], ◌∷◌, ◌++◌, length, get_or, set, replicate, map}
 use Rattle.numbers.specs.Answer.{Answer, gives, refused}
 use Rattle.header_tags.specs.Walk.{first_tag, Tags, more, tags_at}
 use Rattle.header_tags.specs.Bytes.{little_endian, tag_bytes}
 use Rattle.header_tags.specs.Standing.{TagStands, Walked}
+use Rattle.header_places.specs.declared.Row.{Row}
 use Rattle.header_places.specs.declared.TagTable.{TagTable as CodeTable}
-use Rattle.header_places.specs.Table.{types_of, lengths_of, TagTable, table, table_of, bounded_by}
+use Rattle.header_places.specs.Table.{TagTable, table, table_of, bounded_by}
 use Rattle.header_places.specs.Judging.{judge, places_in}
 use Rattle.header_places.specs.RuledOut.{InRow, Known, Unknown}
 
@@ -105,8 +106,8 @@ pub record TableSays : Type 0 where
 
 -- A table of the code is read row by row as it is, whatever its types are, and its bound is 8000.
 pub record AsHanded (t : CodeTable) : Type 0 where
-  pub types : (table_of t).types ≡ types_of t.rows
-  pub lengths : (table_of t).lengths ≡ lengths_of t.rows
+  pub types : (table_of t).types ≡ map (λ (r : Row). r.kind) t.rows
+  pub lengths : (table_of t).lengths ≡ map (λ (r : Row). r.length) t.rows
   pub required : (table_of t).required ≡ t.required
   pub critical : (table_of t).critical ≡ 0x8000
 
