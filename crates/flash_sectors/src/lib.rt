@@ -28,7 +28,10 @@ pub fn copy(target: &mut [u8], source: &[u8]) -> Result<(), UnequalLengths>
     if target.len() != source.len() {
         return Err(UnequalLengths);
     }
-    target.copy_from_slice(source);
+    // Not `copy_from_slice`, which calls `memmove`: a board has `memcpy` and `memset` alone.
+    for i in 0..target.len() {
+        target[i] = source[i];
+    }
     Ok(())
 }
 
@@ -44,36 +47,36 @@ pub fn erase_sector(g: Geometry, partition: &mut [u8], i: SectorNumber)
 }
 
 // Copies sector i of a partition to SWAP.
-#[tactic(auto, using(crate::proofs::Lent::part_read))]
 pub fn copy_to_swap(g: Geometry, swap: &mut [u8], partition: &[u8], i: SectorNumber)
     requires { (Partition g partition.now) × (i.0 < g.sectors) × (length swap.old ≡ g.size) }
     ensures { swap.new ≡ sector_of g i.0 partition.now }
 {
     let start = flash::offset_of(g, i).0;
     let size = g.size;
-    swap.copy_from_slice(&partition[start..start + size]);
+    let _ = copy(swap, &partition[start..start + size]);
 }
 
 // Copies SWAP to sector i of a partition.
-#[tactic(auto, using(crate::proofs::Lent::part_put))]
 pub fn copy_from_swap(g: Geometry, partition: &mut [u8], swap: &[u8], i: SectorNumber)
     requires { (Partition g partition.old) × (i.0 < g.sectors) × (length swap.now ≡ g.size) }
     ensures { partition.new ≡ write_sector g i.0 swap.now partition.old }
 {
     let start = flash::offset_of(g, i).0;
     let size = g.size;
-    partition[start..start + size].copy_from_slice(swap);
+    let _ = copy(&mut partition[start..start + size], swap);
 }
 
 // Copies sector i of one partition to sector i of the other.
-#[tactic(auto, using(crate::proofs::Lent::part_put, crate::proofs::Lent::part_read, flash::proofs::Bytes::length_part))]
 pub fn copy_sector(g: Geometry, target: &mut [u8], source: &[u8], i: SectorNumber)
     requires { (Partition g target.old) × (i.0 < g.sectors) × (length source.now ≡ partition_size g) }
     ensures { target.new ≡ write_sector g i.0 (sector_of g i.0 source.now) target.old }
 {
     let start = flash::offset_of(g, i).0;
     let size = g.size;
-    target[start..start + size].copy_from_slice(&source[start..start + size]);
+    let _ = copy(
+        &mut target[start..start + size],
+        &source[start..start + size],
+    );
 }
 
 // The firmware sectors of a partition.
