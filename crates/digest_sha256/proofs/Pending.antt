@@ -5,11 +5,17 @@ use Rattle.std.proofs.lemmas.List.{drop-replicate}
 use Rattle.digest_sha256.specs.declared.Hasher.{Hasher}
 use Rattle.digest_fips180.specs.Sha256.{block, words, compress, hash}
 use Rattle.digest_sha256.specs.Parts.{zeroed, settle, waiting, absorb_of, finish_of, digest_after}
-use Rattle.digest_sha256.proofs.Concatenation.{same, length_waiting, concatenation}
+use Rattle.digest_sha256.proofs.Concatenation.{same, length_waiting, concatenation, after_blocks}
 
 -- a slice's elements from n on
 pub from : (p : List ℕ) (n : ℕ) → take (length p - n) (drop n p) ≡ drop n p
 from p n = take_all (length p - n) (drop n p) (rw length-drop (omega arith))
+
+-- the hash value g after the whole blocks of m, and the bytes from there on
+pub behind_blocks : (h m : List ℕ) (n f : ℕ) (g : List ℕ) → f ≡ 64 * (length m / 64) → g ≡ hash h m (length m / 64)
+    → digest_after g (take (length m - f) (drop f m)) n ≡ digest_after h m n
+behind_blocks h m n f g e eg =
+    ap₂ (λ (x b : List ℕ). digest_after x b n) eg (from m f ∙ ap (λ (k : ℕ). drop k m) e) ∙ after_blocks h m n
 
 -- x, and y behind it, over the front of zeros, as `lay` leaves them
 abbrev pub laid : List ℕ → List ℕ → List ℕ

@@ -79,12 +79,14 @@ impl Hasher {
         ensures { result ≡ parts.finish_of self }
     {
         let fill = (self.count % 64) as usize;
-        digest_from_two(self.words, &self.pending[..fill], &[], self.count)
+        digest_from(self.words, &self.pending[..fill], self.count)
     }
 }
 
 // The digest of a message of `count` bytes, of the hash value after its whole blocks and the bytes that are left, which lie in two
-// places, x and then y. The padding of 5.1.1 ends their block, or takes one block more.
+// places, x and then y. The padding of 5.1.1 ends their block, or takes one block more. Not in line: its block is not on the stack then
+// while the blocks before it are hashed.
+#[inline(never)]
 fn digest_after(h: [u32; 8], x: &[u8], y: &[u8], count: u64) -> [u8; 32]
     requires { length x.now + length y.now ≡ count % 64 }
     ensures { result ≡ parts.digest_after h (x.now ++ y.now) count }
@@ -102,6 +104,30 @@ fn digest_after(h: [u32; 8], x: &[u8], y: &[u8], count: u64) -> [u8; 32]
     digest_bytes::put_length(&mut b, bits);
     digest_bytes::words_to_bytes(digest_block::compress_block(s, &b))
 }
+
+// The digest of a message of `count` bytes, of the hash value after its first blocks and the bytes behind them.
+// Beside `digest_from_two` with an empty part, since that holds a block more on the stack.
+fn digest_from(h: [u32; 8], rest: &[u8], count: u64) -> [u8; 32]
+    requires { length rest.now % 64 ≡ count % 64 }
+    ensures { result ≡ parts.digest_after h rest.now count }
+{
+    let from = rest.len() - rest.len() % 64;
+    digest_after(
+        digest_block::hash_blocks(h, rest),
+        &rest[from..],
+        &[],
+        count,
+    )
+}
+
+// The digest of a message that lies in one place.
+pub fn digest(message: &[u8]) -> [u8; 32]
+    ensures { result ≡ fips.sha256 message.now }
+{
+    digest_from(H0, message, message.len() as u64)
+}
+
+// ---- a message in two places
 
 // The hash value after the whole blocks of a message that lies in two places, a and then b, from h on. The block where they meet is put
 // together; the others are compressed where they lie.
@@ -138,11 +164,4 @@ pub fn digest_of_two(a: &[u8], b: &[u8]) -> [u8; 32]
 {
     let count = (a.len() as u64).wrapping_add(b.len() as u64);
     digest_from_two(H0, a, b, count)
-}
-
-// The digest of a message that lies in one place.
-pub fn digest(message: &[u8]) -> [u8; 32]
-    ensures { result ≡ fips.sha256 message.now }
-{
-    digest_of_two(message, &[])
 }
