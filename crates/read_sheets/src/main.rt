@@ -2,6 +2,8 @@
 // and the headers that are made of them, or the line of its refusal.
 #![tactic(auto)]
 
+ghost use Rattle.std.specs.Prelude.{◌≤◌, IfOk, vec_len};
+
 use numbers::{Numbered, Refused};
 use release_values::Stated;
 use std::io::Read;
@@ -27,11 +29,14 @@ fn print_refusal(rt: &impl Print, refused: Refused) -> io::Result<()> {
 }
 
 // The start of the file that an argument names; no byte where there is none.
-fn read_argument<R: Runtime>(rt: &R, name: &str) -> io::Result<Vec<u8, R::A>> {
+fn read_argument<R: Runtime>(rt: &R, name: &str) -> io::Result<Vec<u8, R::A>>
+    ensures { IfOk result (λ bytes. vec_len bytes ≤ 4096) }
+{
     let mut bytes = Vec::new(rt.alloc());
     match fs::open(rt, name) {
         Ok(file) => {
             file.take(MOST_BYTES).read_to_end(&mut bytes)?;
+            bytes.truncate(MOST_BYTES as usize);
         }
         Err(e) => eprintln!(rt; "{name}: {e}")?,
     }
