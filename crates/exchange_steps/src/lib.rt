@@ -65,7 +65,8 @@ impl<'b, 'u, 's> FlashMut<'b, 'u, 's> {
         }
     }
 
-    // One operation.
+    // One operation. In line, so that a call that does one or two needs no `FlashMut` on its stack.
+    #[inline(always)]
     pub fn do_operation(&mut self, op: Operation)
         requires { (Shaped self.old.geometry (bytes self.old)) × (SectorWithin self.old.geometry op) }
         ensures same { SameFlash self.old self.new }

@@ -68,13 +68,18 @@ fn give<E: Numbered + Copy>(numbers: &mut [u64], bytes: &mut [u8], read: Result<
     if numbers.len() != HEADER_NUMBERS || bytes.len() != HEADER_BYTES {
         return WRONG_LENGTH;
     }
-    let refused = numbers::refused_by(read);
-    let v = match read {
-        Ok(v) => v,
-        Err(_) => Header::blank(),
-    };
-    c_headers::put_header(numbers, bytes, refused.place as u64, v);
-    refused.number
+    // Not `refused_by`, which would hold the header on the stack once more.
+    match read {
+        Ok(v) => {
+            c_headers::put_header(numbers, bytes, 0, v);
+            0
+        }
+        Err(refusal) => {
+            let refused = refusal.refused();
+            c_headers::put_header(numbers, bytes, refused.place as u64, Header::blank());
+            refused.number
+        }
+    }
 }
 
 // Reads the header in the first 256 bytes of the input.
