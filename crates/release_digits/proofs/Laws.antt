@@ -2,7 +2,7 @@
 use mathlib.Core.Path.{◌≡◌, refl, sym, ◌∙◌}
 use Prim.Native.Nat.{ℕ, zero, suc, ◌+◌, ◌-◌, ◌*◌, ◌≤◌, ◌<◌}
 use mathlib.Core.List.{List, [], ◌∷◌, ◌++◌, append_assoc, append-nil}
-use mathlib.Core.Bool.{Bool, true, false, ◌&&◌}
+use mathlib.Core.Bool.{Bool, true, false, ◌&&◌, cond}
 use Rattle.std.proofs.Math.Bool.{and-false}
 use native.Mathlib.Omega.{arith}
 use native.Mathlib.Numerals.{add-one}
@@ -84,6 +84,15 @@ module _ {s : List ℕ} {n i : ℕ} (read : Read s n i) where
     all_read most some le = (rw (lt-ltb _ _ some, end_digits, ← end_number, le-leb _ _ le), end_number)
 
 -- ---- hexadecimal digits
+
+pub hex_inside : (c : ℕ) → hex_digit c ≤ 16
+hex_inside c = go (is_digit c) (between 97 102 c) (between 65 70 c) refl refl refl
+  where
+    go : (a b d : Bool) → is_digit c ≡ a → between 97 102 c ≡ b → between 65 70 c ≡ d → cond a (c - 48) (cond b (c - 87) (cond d (c - 55) 16)) ≤ 16
+    go true b d p q r = let k = leb-true c 57 (second_of (leb 48 c) (leb c 57) p) in omega arith
+    go false true d p q r = let k = leb-true c 102 (second_of (leb 97 c) (leb c 102) q) in omega arith
+    go false false true p q r = let k = leb-true c 70 (second_of (leb 65 c) (leb c 70) r) in omega arith
+    go false false false p q r = omega arith
 
 -- each of them
 pub hex_each : (s : List ℕ) (i : ℕ) → all_hex s ≡ true → i < length s → hex_digit (get_or s i 0) < 16
