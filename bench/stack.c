@@ -159,8 +159,8 @@ enum { READ_HEADER, CHECK_IMAGE, POWER_UP, ARM, CONFIRM, SHA256, WRITE_HEADER, N
 enum { WRITTEN, PADDED, KINDS };
 
 /* The old board has 2 KiB for all. The two calls with a limit of their own passed it while a block had 64 message words and a table of
-   constants on the stack. */
-enum { BOARD = 2048, DIGEST = 800, EXCHANGE = 1700 };
+   constants on the stack. Of the digest 800 are asked for; it takes 572, and 48 words more, which are 192 bytes, pass 700. */
+enum { BOARD = 2048, DIGEST = 700, EXCHANGE = 1700 };
 
 static const struct {
     const char *name;
